@@ -1,0 +1,101 @@
+(* coq-check [FILE]: reads a text of plift from FILE or standard input, and says whether it is sound.
+
+   The proved function is Checker.check. What has to be believed of this file: the pieces that it is given, one after the
+   other, are the bytes of the input, and `sound` is written only where it has said so. *)
+open Checker
+module Z = Zarith module List = Stdlib.List module String = Stdlib.String
+type string = String.t
+let compare = Stdlib.compare
+
+let most_bytes = 1 lsl 32 and most_line = 1 lsl 20
+exception Too_long
+exception Read_fault
+
+(* The line being given out: its number, its bytes, and what is wrong with it as a whole. *)
+let channel = ref stdin
+let chunk = Bytes.create 65536 and from = ref 0 and upto = ref 0
+let line = Buffer.create 4096
+let number = ref 0 and taken = ref 0 and whole : cause option ref = ref None
+
+let rec next_line () =
+  if !from = !upto then begin
+    from := 0;
+    upto := (try input !channel chunk 0 (Bytes.length chunk) with Sys_error _ -> raise Read_fault)
+  end;
+  let have = !upto - !from in
+  if have = 0 then (if Buffer.length line > 0 then whole := Some Truncated)
+  else begin
+    let room = min have (most_line + 1 - Buffer.length line) in
+    let is_end, n = match Bytes.index_from_opt chunk !from '\n' with
+      | Some i when i - !from < room -> (true, i - !from + 1)
+      | _ -> (false, room) in
+    Buffer.add_subbytes line chunk !from n;
+    from := !from + n;
+    if not is_end then (if Buffer.length line > most_line then whole := Some Limit else next_line ())
+  end
+
+(* Pieces: each word of a line with the byte behind it. *)
+let rec pieces text start () =
+  if start < String.length text then begin
+    let rec stop i = if i >= String.length text - 1 || String.unsafe_get text i = ' ' then i else stop (i + 1) in
+    let last = stop start in
+    let rec bytes i l = if i < start then l else bytes (i - 1) (String.unsafe_get text i :: l) in
+    Word (bytes last [], pieces text (last + 1))
+  end
+  else if !whole <> None then End
+  else begin
+    Buffer.clear line;
+    next_line ();
+    incr number;
+    taken := !taken + Buffer.length line;
+    if !taken > most_bytes then raise Too_long;
+    if Buffer.length line = 0 then End else pieces (Buffer.contents line) 0 ()
+  end
+
+(* Numbers, the last one first, as an array. *)
+let look numbers =
+  let n = List.length numbers in
+  let a = Array.make n Z.zero in
+  List.iteri (fun i z -> a.(n - 1 - i) <- z) numbers;
+  fun s -> let i = Z.to_int s in if i >= 0 && i < n then Array.unsafe_get a i else Z.zero
+
+(* A place in the tree of shapes for each list of polynomials. *)
+module Table = Hashtbl.Make (struct
+  type t = (Z.t * Z.t) list list
+  let equal = same_polys
+  let hash polys = List.fold_left (List.fold_left (fun h (m, c) -> (h * 31 + Z.hash m) * 31 + Z.hash c)) 7 polys land max_int
+end)
+let places = Table.create 1024
+let hint polys =
+  try Table.find places polys
+  with Not_found ->
+    let rec place n = if n = 1 then Here else if n land 1 = 0 then Lo (place (n / 2)) else Hi (place (n / 2)) in
+    let p = place (Table.length places + 1) in
+    Table.add places polys p; p
+
+let named fault = "not sound: " ^ (try Faults.name !number !whole fault with _ -> "no place or cause was found")
+let refuse status note = (try prerr_endline note with Sys_error _ -> ()); exit status
+
+let () =
+  Gc.set { (Gc.get ()) with minor_heap_size = 1 lsl 18; space_overhead = 100 };
+  (match Sys.argv with
+   | [| _ |] -> set_binary_mode_in stdin true
+   | [| _; ("-h" | "--help") |] ->
+       print_string "coq-check [FILE]: says whether a text of plift is sound; reads standard input where FILE is left out\n"; exit 0
+   | [| _; file |] when file = "" || file.[0] <> '-' -> (try channel := open_in_bin file with Sys_error e -> refuse 5 ("read fault: " ^ e))
+   | _ -> refuse 2 "usage: coq-check [FILE]");
+  match check look hint (pieces "" 0) with
+  | Sound (g, a, b, c) when !whole = None ->
+      let a, b, c = Z.to_string a, Z.to_string b, Z.to_string c in
+      (try
+         (match g with
+          | TProperty -> Printf.printf "sound holds %s fails %s unknown %s\n" a b c
+          | TCost -> Printf.printf "sound accept %s unknown %s\n" a c
+          | TReport | TBounded -> Printf.printf "sound accept %s reject %s unknown %s\n" a b c);
+         flush stdout
+       with Sys_error _ -> close_out_noerr stdout; refuse 6 "write fault")
+  | Sound _ -> refuse 1 (named More)
+  | NotSound fault -> refuse 1 (named fault)
+  | exception Too_long -> refuse 7 "too long"
+  | exception Read_fault -> refuse 5 "read fault"
+  | exception (Out_of_memory | Stack_overflow) -> refuse 8 "out of memory"
