@@ -5,6 +5,7 @@ from __future__ import annotations
 import argparse
 import json
 import sys
+from dataclasses import replace
 from fractions import Fraction
 from typing import Any, Dict, Iterable, List, Optional, TextIO
 
@@ -12,8 +13,9 @@ from .evidence import read_file
 from .faults import Fault
 from .forms import MOST_CAP, Asked, Form, read_formula
 from .models import Model
+from .plain import plain
 from .regions import Region
-from .report import Report
+from .report import UNKNOWN, Report
 from .session import MOST_BITS, Question, Session
 from .values import read_bound, read_count, read_part
 
@@ -127,6 +129,33 @@ def bits_advice(precision: int) -> str:
     if precision < MOST_BITS:
         return 'a greater --precision rounds less (%d is the greatest)' % MOST_BITS
     return 'ask of fewer steps, as a shorter mission: each step on the way rounds once more'
+
+
+def advice_lines(question: Question, report: Report) -> List[str]:
+    """What is worth knowing of an answer."""
+    told = []
+    if report.shares[UNKNOWN] and not question.is_relative and question.region.is_uneven(report.live):
+        told.append(
+            '  sides differ by more than ten times: --relative compares them by what they are of their intervals'
+        )
+    if report.shares[UNKNOWN] and report.command == 'cost':
+        told.append(
+            '  unknown isn\'t more: plift shows no cost from below; `bounds` tells the least budget that it shows'
+        )
+    return told
+
+
+def missed_lines(session: Session, question: Question) -> List[str]:
+    """That the goal may be missed, where costs are counted all the same."""
+    if question.form.reward is None:
+        return []
+    sure = replace(question, form=Form('>='), bound=Fraction(1), depth=0, is_relative=False, least_precision=None)
+    if session.ask(sure).verdict == 'accepted':
+        return []
+    return [
+        '  %s isn\'t shown to be reached for sure: what is spent counts also where it is missed, and PRISM and Storm say '
+        'infinity there' % plain(question.goal)
+    ]
 
 
 def behind(report: Report) -> Dict[str, Any]:

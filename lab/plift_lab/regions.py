@@ -69,6 +69,11 @@ class Region:
         fixed = ['%s=%s' % (name, exact(value)) for name, value in self.fixed]
         return ','.join([self.text.strip()] * bool(self.intervals) + fixed)
 
+    def is_uneven(self, names: Iterable[str]) -> bool:
+        """Whether some side is so much longer than another one that the program would halve it alone."""
+        sides = [high - low for name, low, high in self.intervals if name in names]
+        return bool(sides) and max(sides) > 10 * min(sides)
+
     def replaced(self, name: str, low: Fraction, high: Fraction) -> 'Region':
         """The same with another interval for one parameter."""
         self[name]

@@ -173,7 +173,7 @@ class Search:
     def _deepen(self, bound: Fraction) -> Report:
         """The report for a bound, as deep as it takes until all keeps to it or something is beyond it."""
         desk = self._desk
-        question = replace(desk.question, bound=bound, is_relative=_is_uneven(self._points.region, self._points.axes))
+        question = replace(desk.question, bound=bound, is_relative=self._points.region.is_uneven(self._points.axes))
         report = desk.session.ask(question)
         while report.shares[UNKNOWN] and not report.shares[self._kinds[1]] and report.live:
             if report.depth >= MOST_DEPTH or len(report.nodes) > MOST_NODES:
@@ -204,9 +204,3 @@ class Search:
 def _region_of(rectangle: Dict[str, Interval], whole: Region) -> Region:
     """A leaf's rectangle as a region of the user's model."""
     return Region(tuple((name, rectangle[name][0], rectangle[name][1]) for name in whole.names), whole.fixed)
-
-
-def _is_uneven(region: Region, axes: List[str]) -> bool:
-    """Whether some side is so much longer than another one that the program would halve it alone."""
-    sides = [high_end - low_end for low_end, high_end in map(region.__getitem__, axes)]
-    return bool(sides) and max(sides) > 10 * min(sides)

@@ -126,6 +126,38 @@ class Answers(InFolder):
         status, _, fault = run('verify', SENDS, '--formula', 'R{"sends"}<=7/5 [F "done"]', '--region', REGION)
         self.assertEqual((status, '--cap C is due' in fault), (2, True))
 
+    def test_a_goal_that_may_be_missed(self) -> None:
+        """A run that is stuck with a cost behind it: the cost counts, and that is told."""
+        text = (
+            b'@type: DTMC\n@parameters\np\n@reward_models\nc\n@model\nstate 0 [1] init\n1 : p\n2 : 1-p\n'
+            b'state 1 [0] done\n1 : 1\nstate 2 [0]\n2 : 1\n'
+        )
+        for question in ('<=1', '=?'):
+            command = 'verify' if '1' in question else 'bounds'
+            words = ('--formula', 'R{"c"}%s [F "done"]' % question, '--region', 'p=1/4..1/2', '--cap', '2')
+            told = run(command, self.file('m.drn', text), *words)[1]
+            self.assertIn('done isn\'t shown to be reached for sure', told)
+            told = run(
+                command, SENDS, '--formula', 'R{"sends"}%s [F "done"]' % question, '--region', REGION, '--cap', '4'
+            )[1]
+            self.assertNotIn('reached for sure', told)
+
+    def test_sides_of_different_scale(self) -> None:
+        words = (
+            'verify',
+            RETRY,
+            '--goal',
+            'lost',
+            '--bound',
+            '1/40',
+            '--region',
+            'p=0.05..0.06,q=0..1/2',
+            '--depth',
+            '2',
+        )
+        self.assertIn('--relative compares them', run(*words)[1])
+        self.assertNotIn('--relative', run(*words, '--relative')[1])
+
     def test_a_threshold(self) -> None:
         words = ('threshold', RETRY, '--formula', 'P>=0.99 [F "delivered"]', '--parameter', 'p', '--region', REGION)
         status, told, _ = run(*words, '--json')

@@ -36,12 +36,14 @@ def run(given: argparse.Namespace) -> int:
     width = asking.width_of(given)
     calls = read_count(given.calls, '--calls', 2, 10**6)
     with asking.session(given) as session:
-        found = find_bounds(session, asking.question_of(given), width, calls)
+        question = asking.question_of(given)
+        found = find_bounds(session, question, width, calls)
+        missed = [] if given.json else asking.missed_lines(session, question)
         session.progress.clear()
         if given.json:
             asking.put_json(_data(found, session))
         else:
-            print('\n'.join(_lines(found, width, given.list, session)))
+            print('\n'.join(_lines(found, width, given.list, session) + missed))
     return SHORT if found.sup.is_short or found.inf.is_short else DONE
 
 

@@ -24,8 +24,6 @@ from ..report import UNKNOWN, Report
 from ..session import MOST_BITS, MOST_DEPTH, Question, Session
 from ..values import percent, read_count, read_share
 
-COSTS = 'unknown isn\'t more: plift shows no cost from below, so `bounds` tells the least budget that it shows'
-
 
 def add_words(words: argparse.ArgumentParser) -> None:
     """The words of the command."""
@@ -79,7 +77,7 @@ def run(given: argparse.Namespace) -> int:
             if given.json:
                 answers.append(_data(report))
                 continue
-            told.write('\n'.join(_lines(report, share, session)) + '\n')
+            told.write('\n'.join(_lines(question, report, share, session)) + '\n')
         if given.json:
             asking.put_json(answers, told)
     return status
@@ -115,11 +113,10 @@ def _data(report: Report) -> Dict[str, Any]:
     }
 
 
-def _lines(report: Report, share: Optional[Fraction], session: Session) -> List[str]:
+def _lines(question: Question, report: Report, share: Optional[Fraction], session: Session) -> List[str]:
     lines = [report.verdict_line]
     if share is not None:
         decided = percent(1 - report.shares[UNKNOWN])
         lines.append('  decided: %s at depth %d, and %s was asked' % (decided, report.depth, percent(share)))
-    if report.shares[UNKNOWN] and report.command == 'cost':
-        lines.append('  ' + COSTS)
+    lines += asking.advice_lines(question, report) + asking.missed_lines(session, question)
     return lines + asking.behind_lines([report], session)
