@@ -136,7 +136,7 @@ def advice_lines(question: Question, report: Report) -> List[str]:
     told = []
     if report.shares[UNKNOWN] and not question.is_relative and question.region.is_uneven(report.live):
         told.append(
-            '  sides differ by more than ten times: --relative compares them by what they are of their intervals'
+            '  sides differ by more than ten times: --relative compares them by what they are of their ' 'intervals'
         )
     if report.shares[UNKNOWN] and report.command == 'cost':
         told.append(
@@ -153,8 +153,8 @@ def missed_lines(session: Session, question: Question) -> List[str]:
     if session.ask(sure).verdict == 'accepted':
         return []
     return [
-        '  %s isn\'t shown to be reached for sure: what is spent counts also where it is missed, and PRISM and Storm say '
-        'infinity there' % plain(question.goal)
+        '  %s isn\'t shown to be reached for sure: what is spent counts also where it is missed, and PRISM and Storm '
+        'say infinity there' % plain(question.goal)
     ]
 
 
