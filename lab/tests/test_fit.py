@@ -245,7 +245,7 @@ class Texts(unittest.TestCase):
         for wrong in (packed[:-9], packed[:20] + b'\x00' + packed[21:], packed + b'x'):
             with self.assertRaisesRegex(Fault, 'model: line 0: NotText'):
                 fit(wrong, Wants())
-        with mock.patch('plift_lab.fit.text.MOST_BYTES', 1000), self.assertRaisesRegex(Fault, 'more than 1000 bytes'):
+        with mock.patch('plift_lab.fit.lines.MOST_BYTES', 1000), self.assertRaisesRegex(Fault, 'more than 1000 bytes'):
             fit(gzip.compress(bytes(10**6)), Wants())
 
     def test_mutated(self) -> None:
@@ -315,11 +315,11 @@ class Rounding(unittest.TestCase):
         self.assertEqual(
             str(found.exception),
             'model: line 4: RowSum: state 0 choice 0 sums to 1 - 1/50000000000000000, about 2e-17 below 1; --round '
-            'finds fractions near by that sum to 1',
+            'finds numbers near by that sum to 1',
         )
         with self.assertRaisesRegex(Fault, 'sums to 1 - 1/10000, about 0.0001 below 1$'):
             fitted(self.row('0.3333', '0.3333', '0.3333'))
-        with self.assertRaisesRegex(Fault, 'no fractions within 10\\^-12 sum to 1$'):
+        with self.assertRaisesRegex(Fault, 'no numbers within 10\\^-12 do$'):
             fitted(self.row('0.3333', '0.3333', '0.3333'), is_rounded=True)
         with self.assertRaisesRegex(Fault, 'line 6: RowSum: state 0 choice 0 misses 1 by p$'):
             fitted(COIN.replace('1-p', '1'))
@@ -327,7 +327,7 @@ class Rounding(unittest.TestCase):
     def test_simplest(self) -> None:
         text, told = fitted(self.row('0.97999999999999998', '0.02'), is_rounded=True)
         self.assertIn('0 : 49/50\n1 : 1/50\n', text)
-        self.assertIn('state 0 choice 0: to 0: 0.97999999999999998 is 49/50', told)
+        self.assertIn('state 0 choice 0: 0.97999999999999998 is 49/50', told)
         third = '0.33333333333333331'
         self.assertIn('0 : 1/3\n1 : 1/3\n2 : 1/3\n', fitted(self.row(third, third, third), is_rounded=True)[0])
         text = COIN.replace('1 : p\n', '1 : %s*p\n' % third).replace('1-p', '1-0.33333333333333337*p')

@@ -6,7 +6,8 @@ as the one that was given is argued change by change in a second text, and teste
 
 from __future__ import annotations
 
-from typing import List, NamedTuple, Optional, Sequence, Set
+from fractions import Fraction
+from typing import Dict, List, NamedTuple, Optional, Sequence, Set
 
 from ..faults import Fault
 from ..plain import plain
@@ -102,7 +103,7 @@ class _Making:
             told.notes.append('steps in between carry `%s`, too: they are entered from states alone' % shown(label))
         check_numbers(
             source,
-            [(choice.line, choice.values) for state in source.states for choice in state.choices]
+            [(choice.line, choice.values) for choice in source.choices]
             + [(source.last_line, [value for _, value in row]) for row in between],
         )
         self._warn(box)
@@ -126,18 +127,15 @@ class _Making:
 
     def _warn(self, box: Optional[Box]) -> None:
         """Tells of a choice that is no distribution over the region: the program will refuse it."""
-        least = {}
-        for state in self.source.states if box else []:
-            for number, choice in enumerate(state.choices):
-                for value in choice.values:
-                    if value not in least:
-                        least[value] = self.source.pool[value].least(box or {})
-                    if least[value] < 0:
-                        about = (
-                            'state %d choice %d has a probability of %s at a corner of the region: plift will refuse it'
-                        )
-                        self.told.notes.append(about % (state.number, number, shown(str(least[value]))))
-                        return
+        least: Dict[int, Fraction] = {}
+        for choice in self.source.choices if box else ():
+            for value in choice.values:
+                if value not in least:
+                    least[value] = self.source.pool[value].least(box or {})
+                if least[value] < 0:
+                    about = '%s has a probability of %s at a corner of the region: plift will refuse it'
+                    self.told.notes.append(about % (choice.where, shown(str(least[value]))))
+                    return
 
     def _tell(self, spreader: Spreader, asked: Question) -> None:
         """What to know of the fitted text."""

@@ -3,27 +3,18 @@
 from __future__ import annotations
 
 from fractions import Fraction
-from typing import Dict, Iterator, List, Optional, Sequence, Tuple
+from typing import Dict, List, Optional, Sequence, Tuple, Union
 
-from .polynomials import ONE, ZERO, Monomial, Polynomial, common_multiple, total
+from .polynomials import ONE, Monomial, Polynomial, common_multiple, total
 from .refusal import Unfit, shown
 from .source import Choice, Source
 from .told import Told
 
 WITHIN = Fraction(1, 10**12)
 """How far a number is moved at most, and then by no more than a millionth of itself."""
-GRID = 10**13
-MOST_SIZE = 2**62
-
-
-def sums_to_one(values: Sequence[Polynomial]) -> bool:
-    """Whether the values sum to one at each valuation."""
-    return total(values) == ONE
-
-
-def distance(values: Sequence[Polynomial]) -> Polynomial:
-    """By how much their sum misses one."""
-    return total(values) - ONE
+GRID, FEW = 10**13, 1000
+"""The denominator that rows have in common where the simplest numbers don't do, and one that does no harm."""
+MOST_SIZE, HUGE = 2**62, 10**300
 
 
 def tolerance(value: Fraction) -> Fraction:
@@ -58,7 +49,7 @@ def rounded(values: Sequence[Fraction], due: Fraction, is_coarse: bool) -> Optio
     if not is_coarse and sum(found) == due:
         return found
     for place, value in enumerate(values):
-        if abs(value) * GRID > 10**6 and found[place].denominator > 1000:
+        if abs(value) * GRID > 10**6 and found[place].denominator > FEW:
             found[place] = Fraction(round(value * GRID), GRID)
     most = max(range(len(values)), key=lambda place: abs(values[place]))
     found[most] = due - sum(value for place, value in enumerate(found) if place != most)
@@ -84,29 +75,21 @@ def rounded_row(values: Sequence[Polynomial], is_coarse: bool = False) -> Option
     return [Polynomial.of(each) for each in parts]
 
 
-def rows(source: Source) -> Iterator[Tuple[int, int, Choice]]:
-    """Each choice, with the numbers of its state and of itself."""
-    for state in source.states:
-        for number, choice in enumerate(state.choices):
-            yield state.number, number, choice
-
-
 def settle(source: Source, is_rounded: bool, told: Told) -> None:
     """Sees to it that each row sums to one, and by rounding that numbers aren't too long."""
     pool = source.pool
     known: Dict[Tuple[int, ...], Optional[List[int]]] = {}
-    for state, number, choice in rows(source):
+    for choice in source.choices:
         key = tuple(choice.values)
         if key not in known:
             values = [pool[value] for value in key]
-            new: Optional[List[Polynomial]] = None
-            if not sums_to_one(values):
+            known[key] = None
+            if total(values) != ONE:
                 new = rounded_row(values) if is_rounded else None
                 if new is None:
-                    raise _missed(source, state, number, choice, is_rounded)
-            known[key] = None if new is None else [pool.add(value) for value in new]
-        if known[key] is not None:
-            _replace(source, state, number, choice, known[key] or [], told)
+                    raise _missed(source, choice, is_rounded)
+                known[key] = [pool.add(value) for value in new]
+        _replace(source, choice, known[key], told)
     for is_coarse in (False, True):
         if is_rounded and _is_long(source):
             _shorten(source, is_coarse, told)
@@ -115,7 +98,7 @@ def settle(source: Source, is_rounded: bool, told: Told) -> None:
 def _is_long(source: Source) -> bool:
     """Whether some number has more digits than the program takes, or all together have."""
     below = 1
-    for value in {value for _, _, choice in rows(source) for value in choice.values}:
+    for value in {value for choice in source.choices for value in choice.values}:
         polynomial = source.pool[value]
         below = common_multiple((below, polynomial.below))
         if below >= MOST_SIZE or is_wide(polynomial):
@@ -127,16 +110,13 @@ def _shorten(source: Source, is_coarse: bool, told: Told) -> None:
     """Rounds rows that have long numbers."""
     pool = source.pool
     known: Dict[Tuple[int, ...], Optional[List[int]]] = {}
-    for state, number, choice in rows(source):
+    for choice in source.choices:
         key = tuple(choice.values)
         if key not in known:
             values = [pool[value] for value in key]
-            is_short = all(value.below <= 1000 for value in values)
-            new = None if is_short else rounded_row(values, is_coarse)
+            new = None if all(value.below <= FEW for value in values) else rounded_row(values, is_coarse)
             known[key] = None if new is None else [pool.add(value) for value in new]
-        new_values = known[key]
-        if new_values is not None and new_values != choice.values:
-            _replace(source, state, number, choice, new_values, told)
+        _replace(source, choice, known[key], told)
 
 
 def is_wide(value: Polynomial) -> bool:
@@ -144,44 +124,33 @@ def is_wide(value: Polynomial) -> bool:
     return value.below >= MOST_SIZE or any(abs(each) >= MOST_SIZE for each in value.terms.values())
 
 
-def _replace(source: Source, state: int, number: int, choice: Choice, new: List[int], told: Told) -> None:
-    """Writes other values into a row, and tells each."""
+def _replace(source: Source, choice: Choice, new: Optional[List[int]], told: Told) -> None:
+    """Writes other values into a row, if there are any, and tells each."""
+    if new is None or new == choice.values:
+        return
     names = [name.decode('latin-1') for name in source.names.parameters]
-    for target, old, value, text in zip(choice.targets, choice.values, new, choice.texts or [b''] * len(new)):
+    for place, (old, value) in enumerate(zip(choice.values, new)):
         if old != value:
+            text: Union[bytes, str] = choice.texts[place] if choice.texts else source.pool[old].text(names)
             told.change(
                 'numbers are rounded to the simplest fractions whose rows sum to one',
                 'it isn\'t: no number was moved by more than 10^-12 or by more than a millionth of itself, but the '
                 'model is another one, and what is proved is proved of that',
-                'state %d choice %d: to %d: %s is %s'
-                % (state, number, target, shown(text), shown(source.pool[value].text(names))),
+                '%s: %s is %s' % (choice.where, shown(text), shown(source.pool[value].text(names))),
             )
     choice.values, choice.texts = new, []
 
 
-def _missed(source: Source, state: int, number: int, choice: Choice, is_rounded: bool) -> Unfit:
+def _missed(source: Source, choice: Choice, is_rounded: bool) -> Unfit:
     """Why a row isn't a distribution."""
     names = [name.decode('latin-1') for name in source.names.parameters]
-    missed = distance([source.pool[value] for value in choice.values])
+    missed = total([source.pool[value] for value in choice.values] + [-ONE])
+    about = '%s misses 1 by %s' % (choice.where, shown(missed.text(names), 80))
     if missed.is_constant:
-        gap = missed.constant
-        way = 'above' if gap > 0 else 'below'
-        about = 'state %d choice %d sums to 1 %s %s, about %.3g %s 1' % (
-            state,
-            number,
-            '+' if gap > 0 else '-',
-            shown(str(abs(gap)), 80),
-            float(abs(gap)) if abs(gap) < 10**300 else float('inf'),
-            way,
-        )
-        advice = '' if abs(gap) > len(choice.values) * WITHIN else '; --round finds fractions near by that sum to 1'
-    else:
-        about = 'state %d choice %d misses 1 by %s' % (state, number, shown(missed.text(names), 80))
-        advice = '; --round finds numbers near by that sum to 1' if _is_near(missed, len(choice.values)) else ''
-    if is_rounded:
-        advice = ', and no fractions within 10^-12 sum to 1'
-    return Unfit(choice.line, 'RowSum', about + advice)
-
-
-def _is_near(missed: Polynomial, count: int) -> bool:
-    return missed != ZERO and all(abs(value) <= count * WITHIN for value in missed.coefficients.values())
+        gap = abs(missed.constant)
+        sign, way = ('+', 'above') if missed.constant > 0 else ('-', 'below')
+        size = float(gap) if gap < HUGE else float('inf')
+        about = '%s sums to 1 %s %s, about %.3g %s 1' % (choice.where, sign, shown(str(gap), 80), size, way)
+    is_near = all(abs(value) <= len(choice.values) * WITHIN for value in missed.coefficients.values())
+    advice = '; --round finds numbers near by that sum to 1' if is_near else ''
+    return Unfit(choice.line, 'RowSum', about + (', and no numbers within 10^-12 do' if is_rounded else advice))

@@ -4,6 +4,7 @@ from __future__ import annotations
 
 import re
 from fractions import Fraction
+from itertools import islice
 from typing import Any, Callable, List, NamedTuple, Optional, Pattern, Sequence, Tuple
 
 from .polynomials import Number, Polynomial
@@ -13,11 +14,12 @@ NUMBER = rb'[0-9]+(?:\.[0-9]*)?(?:[eE][+-]?[0-9]+)?|\.[0-9]+(?:[eE][+-]?[0-9]+)?
 NAME = rb'[A-Za-z_][A-Za-z0-9_]*'
 NAMED = re.compile(NAME)
 LITERAL = re.compile(rb'([0-9]*)\.?([0-9]*)(?:[eE]([+-]?[0-9]+))?')
+COMMENT = re.compile(rb'(?:^|\s)//.*|\s+$', re.S)
 DECIMAL = re.compile(rb'[0-9]+(?:\.[0-9]+)?')
 MOST_SYMBOLS, MOST_NESTED, MOST_DIGITS, MOST_SIZE, MOST_POWER = (65536, 64, 1000, 2**8192, 1024)
 """Limits far beyond what the program reads: a value within them may still become one that fits."""
-MOST_TERMS, MOST_PRODUCTS = 4096, 200_000
-"""Monomials of a polynomial, and products of two of them in one value."""
+MOST_TERMS, MOST_PRODUCTS, MOST_WORK = 4096, 2**18, 2**22
+"""Monomials of a polynomial, products of two of them in one value, and in all values of a text."""
 Symbols = List[Tuple[int, bytes]]
 """Symbols of a value, each with its kind: a number, a name, a place, an operator or bracket, or anything else."""
 
@@ -66,8 +68,8 @@ def read_value(text: bytes, numbers: Numbers, symbols: Pattern[bytes]) -> Any:
 
 def cut(text: bytes, symbols: Pattern[bytes]) -> Symbols:
     """The symbols of a value, up to a comment."""
-    text = text.partition(b'//')[0].rstrip()
-    found = [(match.lastindex or 0, match.group(match.lastindex or 0)) for match in symbols.finditer(text)]
+    matches = islice(symbols.finditer(COMMENT.sub(b'', text)), MOST_SYMBOLS + 1)
+    found = [(match.lastindex or 0, match.group(match.lastindex or 0)) for match in matches]
     if len(found) > MOST_SYMBOLS:
         raise ValueFault('Long', 'a value has more than %d symbols' % MOST_SYMBOLS)
     return found
@@ -185,13 +187,16 @@ class Polynomials:
     """Values multiplied out, each with a limit to what it takes."""
 
     def __init__(self, name: Callable[[bytes], Polynomial]) -> None:
-        self._products = 0
+        self._products = self._work = 0
         self.numbers = Numbers(self._number, name, self._times, self._over, self._kept, self._constant)
 
     def read(self, text: bytes, symbols: Pattern[bytes]) -> Polynomial:
         """A value."""
         self._products = 0
         value: Polynomial = read_value(text, self.numbers, symbols)
+        self._work += self._products + len(value.terms)
+        if self._work > MOST_WORK:
+            raise ValueFault('Long', 'all values together are too long when they are multiplied out')
         return value
 
     @staticmethod

@@ -4,7 +4,7 @@ from __future__ import annotations
 
 from typing import Union
 
-from ..faults import Fault
+from ..faults import LOST, Fault
 from ..plain import plain
 
 UNFIT = 3
@@ -18,6 +18,14 @@ class Unfit(Fault):
         told = 'model: line %d: %s' % (line, cause)
         super().__init__(told + (': ' + about if about else ''), UNFIT)
         self.line, self.cause = line, cause
+
+
+class Difference(Fault):
+    """The fitted model isn't the same, whatever the cause: nothing is written then."""
+
+    def __init__(self, about: str) -> None:
+        text = 'a fault of plift-lab itself: the fitted model isn\'t the same: %s; nothing is written' % about
+        super().__init__(text, LOST)
 
 
 class ValueFault(Exception):

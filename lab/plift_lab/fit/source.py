@@ -3,7 +3,7 @@
 from __future__ import annotations
 
 from fractions import Fraction
-from typing import Any, Dict, List, Mapping, Sequence, Set, Tuple
+from typing import Any, Dict, Iterator, List, Mapping, Sequence, Set, Tuple
 
 from .expressions import NAMED, Numbers, Polynomials, Symbols, cut, read_symbols, remainders, symbols_with
 from .polynomials import Polynomial
@@ -15,14 +15,25 @@ Costs = Tuple[Fraction, ...]
 class Choice:
     """What may be chosen in a state: where it leads, and by which values of the pool."""
 
-    __slots__ = ('line', 'name', 'group', 'targets', 'values', 'texts')
+    __slots__ = ('line', 'name', 'group', 'state', 'index', 'targets', 'values', 'texts')
 
     def __init__(self, line: int, name: bytes = b'', group: bytes = b'') -> None:
         self.line, self.name, self.group = line, name, group
+        self.state = self.index = 0
+        """The state's number in the text, and which of its choices it is."""
         self.targets: List[int] = []
         self.values: List[int] = []
         self.texts: List[bytes] = []
         """The values as they stand in the text; none of them where they were rounded."""
+
+    @property
+    def where(self) -> str:
+        """Where it is, as the program says it."""
+        return 'state %d choice %d' % (self.state, self.index)
+
+    def lead(self, entries: Sequence[Tuple[int, int]]) -> None:
+        """Lets it lead elsewhere: to these targets, with these values."""
+        self.targets, self.values = [target for target, _ in entries], [value for _, value in entries]
 
 
 class State:
@@ -35,6 +46,19 @@ class State:
         self.place = 0
         """Which of the states that were read it is, in the order of their numbers."""
         self.choices: List[Choice] = []
+
+    def add(self, choice: Choice) -> None:
+        """One choice more."""
+        choice.state, choice.index = self.number, len(self.choices)
+        self.choices.append(choice)
+
+    def loop(self, place: int, one: int) -> None:
+        """Lets each run stay here: the state's own place, and the pool's number of 1."""
+        choice = self.choices[0] if self.choices else Choice(self.line)
+        choice.lead([(place, one)])
+        choice.texts = [b'1']
+        self.choices = []
+        self.add(choice)
 
 
 class Pool:
@@ -129,5 +153,8 @@ class Source:
         """The numbers of states and choices that the text tells, and in which line."""
         self.states: List[State] = []
         self.last_line = 0
-        self.tables: Dict[bytes, int] = {}
-        """The pool's number of each text of a value."""
+
+    @property
+    def choices(self) -> Iterator[Choice]:
+        """The choices of all states."""
+        return (choice for state in self.states for choice in state.choices)

@@ -7,10 +7,10 @@ from typing import Dict, List, NamedTuple, Optional, Sequence, Tuple
 
 from .bernstein import Toss
 from .polynomials import UNIT, Box
-from .refusal import Unfit, shown
-from .source import Choice, Pool, Source, State
+from .refusal import Difference, Unfit, shown
+from .source import Choice, Pool, Source
 from .told import Told, counted
-from .tosses import Negative, Row, Steps, TooMany, composed, degrees_of, is_affine, lengths, tossed, widest
+from .tosses import Negative, Row, Steps, TooMany, composed, is_affine, lengths, to_toss, tossed, widest
 
 Entries = List[Tuple[int, int]]
 """Targets, and the pool's number of the value of each."""
@@ -59,45 +59,44 @@ class Spreader:
     def run(self, told: Told) -> None:
         """Spreads all of them."""
         for place, state in enumerate(self.source.states):
-            low, high = 1, 1
-            for number, choice in enumerate(state.choices):
-                spread = self._spread(state, number, choice)
+            spreads = [self._spread(choice) for choice in state.choices]
+            self.lengths[place] = (
+                min(1 if spread is None else spread.least for spread in spreads),
+                max(1 if spread is None else spread.most for spread in spreads),
+            )
+            for choice, spread in zip(state.choices, spreads):
                 if spread is not None:
                     self._apply(choice, spread)
-                    self._tell(state, number, choice, spread, told)
-                ends = (1, 1) if spread is None else (spread.least, spread.most)
-                low, high = ends if number == 0 else (min(low, ends[0]), max(high, ends[1]))
-            self.lengths[place] = low, high
+                    self._tell(choice, spread, told)
             if len(self.source.states) + len(self.between.rows) > MOST_STATES:
                 about = 'with the steps in between there are more than %d states' % MOST_STATES
                 raise Unfit(state.line, 'LimitStates', about)
 
-    def _spread(self, state: State, number: int, choice: Choice) -> Optional[Spread]:
+    def _spread(self, choice: Choice) -> Optional[Spread]:
         key = tuple(choice.values)
         if key not in self._known:
             row = {place: self.source.pool[value] for place, value in enumerate(key)}
-            self._known[key] = None if is_affine(row) else self._steps(row, state, number, choice)
+            self._known[key] = None if is_affine(row) else self._steps(row, choice)
         return self._known[key]
 
-    def _steps(self, row: Row, state: State, number: int, choice: Choice) -> Spread:
-        where = 'state %d choice %d' % (state.number, number)
-        scales = self._scales(row, where, choice)
+    def _steps(self, row: Row, choice: Choice) -> Spread:
+        """The steps of a row, multiplied out for a test."""
         try:
-            steps = tossed(row, self.box, scales)
+            steps = tossed(row, self.box, self._scales(row))
         except TooMany as fault:
-            raise Unfit(choice.line, 'Power', '%s: %s' % (where, fault)) from None
+            raise Unfit(choice.line, 'Power', '%s: %s' % (choice.where, fault)) from None
         except Negative as fault:
-            raise Unfit(choice.line, 'Power', '%s: %s' % (where, self._refusal(row, choice, fault))) from None
+            raise Unfit(choice.line, 'Power', '%s: %s' % (choice.where, self._refusal(row, choice, fault))) from None
         if composed(steps) != row:
-            raise AssertionError('%s isn\'t what its steps come to' % where)
+            raise Difference('what %s became' % choice.where)
         return _numbered(steps, self.source.pool)
 
-    def _scales(self, row: Row, where: str, choice: Choice) -> List[Box]:
+    def _scales(self, row: Row) -> List[Box]:
         """On which intervals parameters may be tossed, in the order in which they are tried."""
-        outside = [index for index in sorted(degrees_of(row)) if not _is_within(self.box.get(index, UNIT))]
+        outside = [index for index in to_toss(row) if not _is_within(self.box.get(index, UNIT))]
         if outside and not self.is_relative:
-            about = '%s: the interval of %s isn\'t within 0 to 1: --relative tosses it on the interval\'s own scale'
-            raise Unfit(choice.line, 'Power', about % (where, self.names[outside[0]]))
+            about = 'the interval of %s isn\'t within 0 to 1: --relative tosses it on the interval\'s own scale'
+            raise TooMany(about % self.names[outside[0]])
         scales: List[Box] = [] if outside else [{}]
         return scales + [self.box] * self.is_relative
 
@@ -138,10 +137,9 @@ class Spreader:
 
         for entries in spread.between:
             places.append(self.between.place(named(entries)))
-        first = named(spread.first)
-        choice.targets, choice.values = [target for target, _ in first], [value for _, value in first]
+        choice.lead(named(spread.first))
 
-    def _tell(self, state: State, number: int, choice: Choice, spread: Spread, told: Told) -> None:
+    def _tell(self, choice: Choice, spread: Spread, told: Told) -> None:
         tosses = ', '.join(
             '%s %s%s' % (self.names[toss.parameter], _times(toss.times), _scale(toss)) for toss in spread.tosses
         )
@@ -149,7 +147,7 @@ class Spreader:
             'choices whose values aren\'t affine become steps that toss a parameter',
             'each count of heads leads on with numbers of its own (Bernstein\'s form), which multiply out to the very '
             'values of the choice; parameters are the same in each step',
-            'line %d, state %d choice %d: tosses %s' % (choice.line, state.number, number, tosses),
+            'line %d, %s: tosses %s' % (choice.line, choice.where, tosses),
         )
 
 

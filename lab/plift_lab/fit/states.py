@@ -5,13 +5,14 @@ from __future__ import annotations
 from typing import Dict, Iterable, List, Optional, Set
 
 from .labels import Formula
-from .polynomials import ONE, total
-from .refusal import Unfit
-from .source import Choice, Source, State
+from .polynomials import ONE, Polynomial, total
+from .refusal import Unfit, shown
+from .source import Source, State
 from .told import Told, counted, ranges
 from .wants import Wants
 
 INIT = b'init'
+MOST_TOLD = 1000
 
 
 def number(source: Source, told: Told) -> None:
@@ -58,7 +59,7 @@ def begin(source: Source) -> int:
     """The place of the one initial state."""
     found = [place for place, state in enumerate(source.states) if INIT in state.labels]
     if len(found) != 1:
-        names = ranges([source.states[place].number for place in found[:1000]])
+        names = shown(ranges([source.states[place].number for place in found[:MOST_TOLD]]))
         about = (
             'the states %s have the label init: a new first state that goes to each of them is another model, and only '
             'you can say with which probabilities' % names
@@ -71,7 +72,7 @@ def begin(source: Source) -> int:
 
 def check_choices(source: Source, wants: Wants, goal: Optional[Formula], told: Told) -> None:
     """Sees to it that each state has a choice that leads somewhere, and of a chain one alone."""
-    known: Dict[bytes, int] = {}
+    one = source.pool.add(ONE)
     for place, state in enumerate(source.states):
         if source.kind == 'DTMC' and len(state.choices) > 1:
             about = 'state %d of a DTMC has more than one choice: is it an MDP?' % state.number
@@ -82,11 +83,7 @@ def check_choices(source: Source, wants: Wants, goal: Optional[Formula], told: T
         if not (is_goal or wants.is_looped):
             about = 'state %d has no transitions: --loops lets runs stay there, if that is meant' % state.number
             raise Unfit(state.line, 'NoChoice', about)
-        if not known:
-            known[b'1'] = source.pool.add(ONE)
-        choice = state.choices[0] if state.choices else Choice(state.line)
-        choice.targets, choice.values, choice.texts = [place], [known[b'1']], [b'1']
-        state.choices = [choice]
+        state.loop(place, one)
         why = 'a run that is there has reached the goal' if is_goal else 'you said by --loops that runs stay there'
         told.change('states without transitions get a loop', why, 'state %d' % state.number)
 
@@ -95,23 +92,20 @@ def join_targets(source: Source, told: Told) -> None:
     """Lets each choice lead to a state once, and nowhere with probability 0."""
     pool = source.pool
     empty = {place for place, value in enumerate(pool.polynomials) if not value.terms}
-    for state in source.states:
-        for index, choice in enumerate(state.choices):
-            where = 'state %d choice %d' % (state.number, index)
-            is_joined = len(set(choice.targets)) < len(choice.targets)
-            if is_joined:
-                parts: Dict[int, List[int]] = {}
-                for target, value in zip(choice.targets, choice.values):
-                    parts.setdefault(target, []).append(value)
-                choice.targets = list(parts)
-                choice.values = [pool.add(total(pool[value] for value in values)) for values in parts.values()]
-                told.change('transitions of a choice to the same state are joined', 'their values add up', where)
-            if is_joined or not empty.isdisjoint(choice.values):
-                count_before = len(choice.targets)
-                kept = [(target, value) for target, value in zip(choice.targets, choice.values) if pool[value].terms]
-                choice.targets, choice.values = [target for target, _ in kept], [value for _, value in kept]
-                if len(kept) < count_before:
-                    told.change('transitions of probability 0 are left out', 'they are never taken', where)
+    for choice in source.choices:
+        is_joined = len(set(choice.targets)) < len(choice.targets)
+        if is_joined:
+            parts: Dict[int, List[Polynomial]] = {}
+            for target, value in zip(choice.targets, choice.values):
+                parts.setdefault(target, []).append(pool[value])
+            choice.lead([(target, pool.add(total(values))) for target, values in parts.items()])
+            told.change('transitions of a choice to the same state are joined', 'their values add up', choice.where)
+        if is_joined or not empty.isdisjoint(choice.values):
+            entries = list(zip(choice.targets, choice.values))
+            kept = [(target, value) for target, value in entries if pool[value].terms]
+            choice.lead(kept)
+            if len(kept) < len(entries):
+                told.change('transitions of probability 0 are left out', 'they are never taken', choice.where)
 
 
 def reached(states: List[State], start: int) -> Set[int]:
@@ -137,9 +131,7 @@ def drop_unreached(source: Source, start: int, told: Told) -> Set[int]:
     kept = _keepers(states, found)
     one = source.pool.add(ONE)
     for place, labels in kept.items():
-        loop = Choice(states[place].line)
-        loop.targets, loop.values = [place], [one]
-        states[place].choices = [loop]
+        states[place].loop(place, one)
         told.change(
             'a state that no run comes to stays, with a loop, for a label that no other state has',
             'the label can be asked for, and is reached with probability 0',

@@ -40,7 +40,7 @@ class Negative(Exception):
 
 
 class TooMany(Exception):
-    """A parameter would be tossed too often, or a choice takes too many steps."""
+    """Why a row can't be tossed at all: a parameter too often, or on no scale, or in too many steps."""
 
 
 def degrees_of(row: Row) -> Dict[int, int]:
@@ -58,18 +58,22 @@ def is_affine(row: Row) -> bool:
     return len(found) <= MOST_IN_ROW and all(power == 1 for power in found.values())
 
 
+def to_toss(row: Row) -> List[int]:
+    """The parameters that have to be tossed: those with powers, and of the others those that are too many."""
+    degrees = degrees_of(row)
+    powers = {index for index, power in degrees.items() if power > 1}
+    return sorted(powers.union(sorted(set(degrees) - powers)[MOST_IN_ROW:]))
+
+
 def tossed(row: Row, box: Box, scales: Sequence[Box]) -> Steps:
     """The steps of a row over a box. Each of the scales says for some parameters on which interval they are tossed; the
     first one that does is taken."""
-    degrees = degrees_of(row)
-    chosen = {index for index, power in degrees.items() if power > 1}
-    for index in sorted(set(degrees) - chosen)[MOST_IN_ROW:]:
-        chosen.add(index)
+    degrees, chosen = degrees_of(row), to_toss(row)
     if any(degrees[index] > MOST_DEGREE for index in chosen):
         raise TooMany('a parameter has the power %d; at most %d can be tossed' % (max(degrees.values()), MOST_DEGREE))
     fault: Optional[Negative] = None
     for scale in scales:
-        tosses = [Toss(index, degrees[index], *scale.get(index, UNIT)) for index in sorted(chosen)]
+        tosses = [Toss(index, degrees[index], *scale.get(index, UNIT)) for index in chosen]
         try:
             return _least(row, box, tosses)
         except Negative as found:

@@ -6,10 +6,10 @@ import random
 from fractions import Fraction
 from typing import Dict, List, NamedTuple, Optional, Sequence, Set, Tuple
 
-from ..faults import LOST, Fault
 from .expressions import Numbers, Symbols, read_symbols
 from .polynomials import UNIT, Box, Polynomial
 from .reach import PRIME, Chain, TooDense, reach
+from .refusal import Difference
 from .source import Names, Source
 from .told import counted
 
@@ -51,14 +51,6 @@ class Pair(NamedTuple):
     after: Plain
     places: Dict[int, int]
     parameters: Sequence[int]
-
-
-class Difference(Fault):
-    """The two models aren't the same, whatever the cause: nothing is written then."""
-
-    def __init__(self, about: str) -> None:
-        text = 'a fault of plift-lab itself: the fitted model isn\'t the same: %s; nothing is written' % about
-        super().__init__(text, LOST)
 
 
 def as_read(source: Source) -> Plain:

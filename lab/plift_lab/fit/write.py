@@ -94,7 +94,7 @@ class Writer:
     def text(self, between: Sequence[Entries], marked: Sequence[bytes]) -> bytes:
         """The whole text; steps in between carry some labels."""
         states = self.source.states
-        choices = [choice for state in states for choice in state.choices]
+        choices = list(self.source.choices)
         if len(choices) + len(between) > MOST_CHOICES:
             raise Unfit(self.source.last_line, 'LimitChoices', 'there are more than %d choices' % MOST_CHOICES)
         entries = sum(len(choice.targets) for choice in choices) + sum(map(len, between))
