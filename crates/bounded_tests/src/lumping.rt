@@ -26,11 +26,18 @@ state 1\n3 : p\n4 : 1-p\nstate 2\n3 : p\n4 : 1-p\nstate 3 goal\n3 : 1\nstate 4\n
 const OTHER: &[u8] = b"@type: DTMC\n@parameters\np q\n@model\nstate 0 init\n1 : 1/2\n2 : 1/2\n\
 state 1\n3 : p\n4 : 1-p\nstate 2\n3 : q\n4 : 1-q\nstate 3 goal\n3 : 1\nstate 4\n4 : 1\n";
 
-/// Two states with constants that differ by the prime of the marks: 1 and 2^61 over 2^61 + 4.
-const PRIME: &[u8] = b"@type: DTMC\n@parameters\np\n@model\nstate 0 init\n1 : 1/2\n2 : 1/2\n\
-state 1\n3 : 1/2305843009213693956\n4 : 2305843009213693955/2305843009213693956\n\
-state 2\n3 : 2305843009213693952/2305843009213693956\n4 : 4/2305843009213693956\n\
-state 3 goal\n3 : 1\nstate 4\n4 : 1\n";
+/// Three states that no mark tells apart: the goal's parts are once, twice and three times 6940611991 + 637291485p.
+const MARKS: &[u8] =
+    b"@type: DTMC\n@parameters\np\n@model\nstate 0 init\n1 : 1/4\n2 : 1/4\n3 : 1/2\n\
+state 1\n4 : 6940611991/45467420856+637291485/45467420856*p\n5 : 38526808865/45467420856-637291485/45467420856*p\n\
+state 2\n4 : 13881223982/45467420856+1274582970/45467420856*p\n5 : 31586196874/45467420856-1274582970/45467420856*p\n\
+state 3\n4 : 20821835973/45467420856+1911874455/45467420856*p\n5 : 24645584883/45467420856-1911874455/45467420856*p\n\
+state 4 goal\n4 : 1\nstate 5\n5 : 1\n";
+
+/// Five states; a split touches all states of two blocks in turn.
+const TURNS: &[u8] =
+    b"@type: DTMC\n@parameters\np\n@model\nstate 0\n1 : 1/2\n3 : 1/2\nstate 1\n0 : 1/2\n4 : 1/2\n\
+state 2 init\n3 : 1/2\n4 : 1/2\nstate 3 goal\n2 : 1/2\n0 : 1/2\nstate 4\n2 : 1/2\n4 : 1/2\n";
 
 /// Entries that lead into one block: they sum to 1, and to 0.
 const CANCELLED: &[u8] = b"@type: DTMC\n@parameters\np\n@model\nstate 0 init\n1 : p\n2 : 1-p\n\
@@ -46,7 +53,8 @@ fn text_of(name: &str) -> &'static [u8] {
         "DIE" => DIE,
         "PAIR" => PAIR,
         "OTHER" => OTHER,
-        "PRIME" => PRIME,
+        "MARKS" => MARKS,
+        "TURNS" => TURNS,
         "CANCELLED" => CANCELLED,
         _ => PROCESS,
     }
@@ -118,7 +126,8 @@ const LUMPED: &str = "\
 DIE | [0, 1, 2, 3, 2, 2, 2, 4, 2, 2, 2, 2, 2]
 PAIR | [0, 1, 1, 2, 3]
 OTHER | [0, 1, 2, 3, 4]
-PRIME | [0, 1, 2, 3, 4]
+MARKS | [0, 1, 2, 3, 4, 5]
+TURNS | [0, 1, 0, 2, 1]
 CANCELLED | [0, 1, 1, 2]";
 
 #[test]

@@ -4,7 +4,7 @@ use Rattle.std.proofs.lemmas.List.{get_or-set_same, get_or-set_other, get_or_def
 use Rattle.lift_lump.specs.declared.arrows.Arrow.{Arrow}
 use Rattle.lift_lump.specs.Laws.{StepsKeep}
 use Rattle.lift_lump.specs.Search.{marked, number_at, AreMet, AreMarked, AreNumbersOf, IsByNumber}
-use Rattle.lift_lump.specs.declared.rename.Touched.{Touched}
+use Rattle.lift_lump.specs.declared.touch.Touched.{Touched}
 use Rattle.lift_lump.specs.Renaming.{AreTouched, AreAllTouched, no_touched, state_at}
 use Rattle.lift_lump.specs.Splitting.{list_of, AreListed, AreGathered, labelled, AreTelling, IsKeptAbove, IsBegun}
 use Rattle.lift_lump.proofs.Sides.{side, same_or_not}
@@ -91,6 +91,12 @@ cleared_all states i old new past met are u = by (same_or_not (number_at new u) 
 -- where each state stands in the list of its label, touched states are gathered
 pub gathered : (labels numbers : List ℕ) (members : List (List ℕ)) (touched : List Touched) → AreListed labels members → AreTouched labels numbers touched → AreAllTouched labels numbers touched → AreGathered labels numbers members touched
 gathered labels numbers members touched listed are all = record { touched = are; some = all; listed = λ s lt. inl (listed s lt) }
+
+-- the same in another order, of the labels in a slice
+pub touched_are : (labels numbers slice : List ℕ) (members : List (List ℕ)) (old new : List Touched) → slice ≡ labels → ((ls ns : List ℕ) (ms : List (List ℕ)) → AreGathered ls ns ms old → AreGathered ls ns ms new) → AreTouched slice numbers old → AreAllTouched slice numbers old
+    → AreListed labels members → AreGathered labels numbers members new
+touched_are labels numbers slice members old new is sorted are all listed =
+    sorted labels numbers members (gathered labels numbers members old listed (subst (λ (ls : List ℕ). AreTouched ls numbers old) is are) (subst (λ (ls : List ℕ). AreAllTouched ls numbers old) is all))
 
 -- ---- one split
 

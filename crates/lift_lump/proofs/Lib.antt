@@ -16,7 +16,10 @@ mod Gathering
 mod Renaming
 mod Stepping
 mod Touching
+mod Holders
 mod Settling
+mod Regrouping
+mod Crowding
 mod Clearing
 mod Marking
 mod Entering

@@ -1,6 +1,6 @@
 -- What comparing states with the least ones of their blocks tells.
-use Rattle.std.proofs.Common.{◌≡◌, ◌≢◌, ◌⊎◌, inl, inr, ℕ, zero, suc, ◌+◌, ◌<◌, ◌≤◌, Bool, true, false, cond, List, [], ◌∷◌, ◌++◌, length, get_or, set, All, Contains, nat_eq, refl, sym, ap, ap₂, ◌∙◌, subst, arith}
-use Rattle.std.proofs.lemmas.List.{get_or-set_same, get_or-set_other, length-set}
+use Rattle.std.proofs.Common.{◌≡◌, ◌≢◌, ◌⊎◌, inl, inr, ℕ, zero, suc, ◌+◌, ◌-◌, ◌<◌, ◌≤◌, Bool, true, false, cond, List, [], ◌∷◌, ◌++◌, length, get_or, set, All, AllPairs, Contains, nat_eq, refl, sym, ap, ap₂, ◌∙◌, subst, arith}
+use Rattle.std.proofs.lemmas.List.{get_or-set_same, get_or-set_other, get_or_append_left, length-set, length_push}
 use Rattle.std.proofs.lemmas.List.Elements.{All-push, All-weaker, Contains-append_left, Contains-push, All-nil}
 use Rattle.lift_poly.specs.Polynomial.{constant}
 use Rattle.lift_poly.specs.Laws.{TermsSumToPolynomial, TermsSumBySet, CoefficientsDetermine}
@@ -11,8 +11,9 @@ use Rattle.lift_lump.specs.Lumping.{Partition, sum_into, in_block, AreTogether, 
 use Rattle.lift_lump.specs.Quotient.{Blocks, block, first, AreNumbered, one_entry, entries_into, quotient_row}
 use Rattle.lift_lump.specs.Laws.{EntriesTellSums}
 use Rattle.lift_lump.specs.Search.{number_at, IsByNumber}
-use Rattle.lift_lump.specs.Splitting.{AreSameBlocks, labelled}
-use Rattle.lift_lump.specs.Comparing.{IsLike, AreCompared, AreDifferent}
+use Rattle.lift_lump.specs.Splitting.{AreSameBlocks, HaveNone, labelled}
+use Rattle.lift_lump.specs.Comparing.{IsLike, IsTold, AreCompared, row_text}
+use Rattle.lift_lump.specs.declared.compared.Compared.{Compared}
 use Rattle.lift_lump.proofs.Holding.{targets_inside}
 use Rattle.lift_lump.proofs.Keeping.{sums_agree}
 use Rattle.lift_lump.proofs.Sides.{side, same_or_not}
@@ -22,23 +23,25 @@ like_first m p s e = record { goal = ap (is_goal m) (sym e); row = ap (quotient_
 
 -- ---- one state after another
 
-pub compared_none : (m : ModelData) (p : Blocks) (numbers different : List ℕ) → length numbers ≡ length m.states → ((s : ℕ) → number_at numbers s ≡ 0) → different ≡ [] → AreCompared m p 0 numbers different
-compared_none m p numbers different size zeros is = record {
+pub compared_none : (m : ModelData) (p : Blocks) (numbers different : List ℕ) (texts : List (List ℕ)) → length numbers ≡ length m.states → ((s : ℕ) → number_at numbers s ≡ 0) → different ≡ [] → AreCompared m p 0 numbers different texts
+compared_none m p numbers different texts size zeros is = record {
   size = size;
   like = λ s lt. absurd (omega (arith, lt));
   other = λ s lt. absurd (omega (arith, lt));
-  one = λ s. inl (zeros s);
+  places = λ s. let none = zeros s in omega (arith, none);
+  told = λ s some. absurd (some (zeros s));
   met = λ s lt some. absurd (some (zeros s));
   some = subst (All (λ s. (s < length numbers) × (number_at numbers s ≢ 0))) (sym is) (All-nil (λ s. (s < length numbers) × (number_at numbers s ≢ 0)));
 }
 
-module _ (m : ModelData) (p : Blocks) (count : ℕ) (numbers different : List ℕ) (are : AreCompared m p count numbers different) (later : (s : ℕ) → count ≤ s → number_at numbers s ≡ 0) where
-  pub compared_same : IsLike m p count → AreCompared m p (count + 1) numbers different
+module _ (m : ModelData) (p : Blocks) (count : ℕ) (numbers different : List ℕ) (texts : List (List ℕ)) (are : AreCompared m p count numbers different texts) (later : (s : ℕ) → count ≤ s → number_at numbers s ≡ 0) where
+  pub compared_same : IsLike m p count → AreCompared m p (count + 1) numbers different texts
   compared_same like = record {
     size = are.size;
     like = λ s lt none. by s lt none (side s count);
     other = λ s lt is. other s lt is (side s count);
-    one = are.one;
+    places = are.places;
+    told = are.told;
     met = are.met;
     some = are.some;
   }
@@ -51,50 +54,80 @@ module _ (m : ModelData) (p : Blocks) (count : ℕ) (numbers different : List �
       other s lt is (inl less) = are.other s less is
       other s lt is (inr le) = later s le
 
-  pub compared_other : (new after : List ℕ) → count < length numbers → (IsLike m p count → ⊥) → AreDifferent count 1 numbers new different after → AreCompared m p (count + 1) new after
-  compared_other new after lt_in unlike made = subst (λ (ns : List ℕ). AreCompared m p (count + 1) ns after) (sym made.numbers) (subst (AreCompared m p (count + 1) (set numbers count 1)) (sym made.list) (record {
-    size = length-set numbers count 1 ∙ are.size;
-    like = λ s lt none. by s lt none (same_or_not s count);
-    other = λ s lt is. other s lt is (same_or_not s count);
-    one = λ s. one s (same_or_not s count);
-    met = λ s lt some. met s lt some (same_or_not s count);
-    some = All-push Some different count (All-weaker Old Some kept different are.some) (omega (arith, lt_in, length-set numbers count 1), λ none. absurd (let e : 1 ≡ 0 = sym here ∙ none in omega (arith, e)));
-  }))
-    where
-      Old : ℕ → Type 0
-      Old s = (s < length numbers) × (number_at numbers s ≢ 0)
+  module _ (text : List ℕ) (new_texts : List (List ℕ)) (place : ℕ) (lt_in : count < length numbers) (inside : place < length new_texts) (there : get_or new_texts place [] ≡ text) (grown : (new_texts ≡ texts) ⊎ (new_texts ≡ texts ++ text ∷ [])) (is_text : text ≡ row_text (quotient_row m p count)) where
+    abbrev new : List ℕ
+    new = set numbers count (place + 1)
 
-      Some : ℕ → Type 0
-      Some s = (s < length (set numbers count 1)) × (number_at (set numbers count 1) s ≢ 0)
+    here : number_at new count ≡ place + 1
+    here = get_or-set_same numbers count (place + 1) 0 lt_in
 
-      here : number_at (set numbers count 1) count ≡ 1
-      here = get_or-set_same numbers count 1 0 lt_in
+    away : (s : ℕ) → s ≢ count → number_at new s ≡ number_at numbers s
+    away s ne = get_or-set_other numbers count s (place + 1) 0 ne
 
-      there : (s : ℕ) → s ≢ count → number_at (set numbers count 1) s ≡ number_at numbers s
-      there s ne = get_or-set_other numbers count s 1 0 ne
+    more : length texts ≤ length new_texts
+    more = by grown
+      where
+        by : (new_texts ≡ texts) ⊎ (new_texts ≡ texts ++ text ∷ []) → length texts ≤ length new_texts
+        by (inl e) = let same = ap (length {A = List ℕ}) e in omega (arith, same)
+        by (inr e) = let same = ap (length {A = List ℕ}) e in omega (arith, same, length_push texts text)
 
-      kept : (s : ℕ) → Old s → Some s
-      kept s old = (let l = old.0 in omega (arith, l, length-set numbers count 1), λ none. by_case none (same_or_not s count))
-        where
-          by_case : number_at (set numbers count 1) s ≡ 0 → (s ≡ count) ⊎ (s ≢ count) → ⊥
-          by_case none (inl e) = let f : 1 ≡ 0 = sym here ∙ ap (number_at (set numbers count 1)) (sym e) ∙ none in omega (arith, f)
-          by_case none (inr ne) = old.1 (sym (there s ne) ∙ none)
+    kept_text : (i : ℕ) → i < length texts → get_or new_texts i [] ≡ get_or texts i []
+    kept_text i lt = by grown
+      where
+        by : (new_texts ≡ texts) ⊎ (new_texts ≡ texts ++ text ∷ []) → get_or new_texts i [] ≡ get_or texts i []
+        by (inl e) = ap (λ (ts : List (List ℕ)). get_or ts i []) e
+        by (inr e) = ap (λ (ts : List (List ℕ)). get_or ts i []) e ∙ get_or_append_left texts (text ∷ []) [] i lt
 
-      by : (s : ℕ) → s < count + 1 → number_at (set numbers count 1) s ≡ 0 → (s ≡ count) ⊎ (s ≢ count) → IsLike m p s
-      by s lt none (inl e) = absurd (let f : 1 ≡ 0 = sym here ∙ ap (number_at (set numbers count 1)) (sym e) ∙ none in omega (arith, f))
-      by s lt none (inr ne) = are.like s (grind (arith, lt, ne)) (sym (there s ne) ∙ none)
+    pub compared_other : (IsLike m p count → ⊥) → AreCompared m p (count + 1) new (different ++ count ∷ []) new_texts
+    compared_other unlike = record {
+      size = length-set numbers count (place + 1) ∙ are.size;
+      like = λ s lt none. by s lt none (same_or_not s count);
+      other = λ s lt is. other s lt is (same_or_not s count);
+      places = λ s. places s (same_or_not s count);
+      told = λ s some. told s some (same_or_not s count);
+      met = λ s lt some. met s lt some (same_or_not s count);
+      some = All-push Some different count (All-weaker Old Some kept different are.some) (omega (arith, lt_in, length-set numbers count (place + 1)), λ none. absurd (let e : place + 1 ≡ 0 = sym here ∙ none in omega (arith, e)));
+    }
+      where
+        Old : ℕ → Type 0
+        Old s = (s < length numbers) × (number_at numbers s ≢ 0)
 
-      other : (s : ℕ) → s < count + 1 → IsLike m p s → (s ≡ count) ⊎ (s ≢ count) → number_at (set numbers count 1) s ≡ 0
-      other s lt is (inl e) = absurd (unlike (subst (IsLike m p) e is))
-      other s lt is (inr ne) = there s ne ∙ are.other s (grind (arith, lt, ne)) is
+        Some : ℕ → Type 0
+        Some s = (s < length new) × (number_at new s ≢ 0)
 
-      one : (s : ℕ) → (s ≡ count) ⊎ (s ≢ count) → (number_at (set numbers count 1) s ≡ 0) ⊎ (number_at (set numbers count 1) s ≡ 1)
-      one s (inl e) = inr (ap (number_at (set numbers count 1)) e ∙ here)
-      one s (inr ne) = subst (λ n. (n ≡ 0) ⊎ (n ≡ 1)) (sym (there s ne)) (are.one s)
+        kept : (s : ℕ) → Old s → Some s
+        kept s old = (let l = old.0 in omega (arith, l, length-set numbers count (place + 1)), λ none. by_case none (same_or_not s count))
+          where
+            by_case : number_at new s ≡ 0 → (s ≡ count) ⊎ (s ≢ count) → ⊥
+            by_case none (inl e) = let f : place + 1 ≡ 0 = sym here ∙ ap (number_at new) (sym e) ∙ none in omega (arith, f)
+            by_case none (inr ne) = old.1 (sym (away s ne) ∙ none)
 
-      met : (s : ℕ) → s < length (set numbers count 1) → number_at (set numbers count 1) s ≢ 0 → (s ≡ count) ⊎ (s ≢ count) → Contains (different ++ count ∷ []) s
-      met s lt some (inl e) = subst (Contains (different ++ count ∷ [])) (sym e) (Contains-push different count)
-      met s lt some (inr ne) = Contains-append_left different (count ∷ []) s (are.met s (omega (arith, lt, length-set numbers count 1)) (λ none. some (there s ne ∙ none)))
+        by : (s : ℕ) → s < count + 1 → number_at new s ≡ 0 → (s ≡ count) ⊎ (s ≢ count) → IsLike m p s
+        by s lt none (inl e) = absurd (let f : place + 1 ≡ 0 = sym here ∙ ap (number_at new) (sym e) ∙ none in omega (arith, f))
+        by s lt none (inr ne) = are.like s (grind (arith, lt, ne)) (sym (away s ne) ∙ none)
+
+        other : (s : ℕ) → s < count + 1 → IsLike m p s → (s ≡ count) ⊎ (s ≢ count) → number_at new s ≡ 0
+        other s lt is (inl e) = absurd (unlike (subst (IsLike m p) e is))
+        other s lt is (inr ne) = away s ne ∙ are.other s (grind (arith, lt, ne)) is
+
+        places : (s : ℕ) → (s ≡ count) ⊎ (s ≢ count) → number_at new s ≤ length new_texts
+        places s (inl e) = let n : number_at new s ≡ place + 1 = ap (number_at new) e ∙ here in omega (arith, n, inside)
+        places s (inr ne) = let n = away s ne in let was = are.places s in omega (arith, n, was, more)
+
+        told : (s : ℕ) → number_at new s ≢ 0 → (s ≡ count) ⊎ (s ≢ count) → get_or new_texts (number_at new s - 1) [] ≡ row_text (quotient_row m p s)
+        told s some (inl e) =
+            ap (λ n. get_or new_texts n []) (let n : number_at new s ≡ place + 1 = ap (number_at new) e ∙ here in let f : number_at new s - 1 ≡ place = omega (arith, n) in f)
+            ∙ there ∙ is_text ∙ ap (λ k. row_text (quotient_row m p k)) (sym e)
+        told s some (inr ne) =
+            let was : number_at numbers s ≢ 0 = λ none. some (away s ne ∙ none) in
+            let low = are.places s in
+            ap (λ n. get_or new_texts (n - 1) []) (away s ne)
+            ∙ kept_text (number_at numbers s - 1) (grind (arith, low, was))
+            ∙ are.told s was
+
+        met : (s : ℕ) → s < length new → number_at new s ≢ 0 → (s ≡ count) ⊎ (s ≢ count) → Contains (different ++ count ∷ []) s
+        met s lt some (inl e) = subst (Contains (different ++ count ∷ [])) (sym e) (Contains-push different count)
+        met s lt some (inr ne) = Contains-append_left different (count ∷ []) s (are.met s (omega (arith, lt, length-set numbers count (place + 1))) (λ none. some (away s ne ∙ none)))
 
 -- the states that weren't looked at yet have the number 0
 abbrev pub AreLater : ℕ → List ℕ → Type 0
@@ -103,19 +136,43 @@ AreLater count numbers = (s : ℕ) → count ≤ s → number_at numbers s ≡ 0
 pub later_same : (count : ℕ) (numbers : List ℕ) → AreLater count numbers → AreLater (count + 1) numbers
 later_same count numbers later s le = later s (omega (arith, le))
 
-pub later_other : (count : ℕ) (numbers new : List ℕ) → new ≡ set numbers count 1 → AreLater count numbers → AreLater (count + 1) new
-later_other count numbers new is later s le = ap (λ (ns : List ℕ). number_at ns s) is ∙ get_or-set_other numbers count s 1 0 (λ e. absurd (omega (arith, e, le))) ∙ later s (omega (arith, le))
+pub later_other : (count n : ℕ) (numbers new : List ℕ) → new ≡ set numbers count n → AreLater count numbers → AreLater (count + 1) new
+later_other count n numbers new is later s le = ap (λ (ns : List ℕ). number_at ns s) is ∙ get_or-set_other numbers count s n 0 (λ e. absurd (omega (arith, e, le))) ∙ later s (omega (arith, le))
 
-pub compared_step : (m : ModelData) (p : Blocks) (count : ℕ) (numbers different new after : List ℕ) (d : Bool) → count < length numbers → AreCompared m p count numbers different → AreLater count numbers
-    → (d ≡ false → IsLike m p count) → (IsLike m p count → d ≡ false) → (d ≡ true → AreDifferent count 1 numbers new different after) → (d ≡ false → (new ≡ numbers) × (after ≡ different))
-    → AreCompared m p (count + 1) new after × AreLater (count + 1) new
-compared_step m p count numbers different new after true lt are later like other made same =
-    (compared_other m p count numbers different are later new after lt (λ is. absurd (let e = other is in cc)) (made refl), later_other count numbers new (made refl).numbers later)
-compared_step m p count numbers different new after false lt are later like other made same =
-    let s = same refl in (
-      subst (λ (ns : List ℕ). AreCompared m p (count + 1) ns after) (sym s.0) (subst (AreCompared m p (count + 1) numbers) (sym s.1) (compared_same m p count numbers different are later (like refl))),
-      subst (AreLater (count + 1)) (sym s.0) (later_same count numbers later),
-    )
+-- what holds once the first states, so many, were compared
+pub record AreLooked (m : ModelData) (p : Blocks) (count : ℕ) (c : Compared) : Type 0 where
+  pub compared : AreCompared m p count c.numbers.items c.different.items c.texts
+  pub later : AreLater count c.numbers.items
+  pub few : length c.texts ≤ count
+
+pub looked_same : (m : ModelData) (p : Blocks) (count : ℕ) (c : Compared) → IsLike m p count → AreLooked m p count c → AreLooked m p (count + 1) c
+looked_same m p count c like are = record {
+  compared = compared_same m p count c.numbers.items c.different.items c.texts are.compared are.later like;
+  later = later_same count c.numbers.items are.later;
+  few = let few = are.few in omega (arith, few);
+}
+
+pub looked_told : (m : ModelData) (p : Blocks) (count : ℕ) (old new : Compared) (text : List ℕ) → count < length m.states → (IsLike m p count → ⊥) → text ≡ row_text (quotient_row m p count) → IsTold count text old new → AreLooked m p count old → AreLooked m p (count + 1) new
+looked_told m p count old new text lt unlike is told are = record {
+  compared = subst (λ (ns : List ℕ). AreCompared m p (count + 1) ns new.different.items new.texts) (sym told.numbers)
+      (subst (λ (ds : List ℕ). AreCompared m p (count + 1) (set old.numbers.items count (told.place + 1)) ds new.texts) (sym told.list)
+      (compared_other m p count old.numbers.items old.different.items old.texts are.compared are.later text new.texts told.place (let size = are.compared.size in omega (arith, lt, size)) told.inside told.there told.texts is unlike));
+  later = later_other count (told.place + 1) old.numbers.items new.numbers.items told.numbers are.later;
+  few = by told.texts;
+}
+  where
+    by : (new.texts ≡ old.texts) ⊎ (new.texts ≡ old.texts ++ text ∷ []) → length new.texts ≤ count + 1
+    by (inl e) = let same = ap (length {A = List ℕ}) e in let few = are.few in omega (arith, same, few)
+    by (inr e) = let same = ap (length {A = List ℕ}) e in let few = are.few in omega (arith, same, few, length_push old.texts text)
+
+-- one text has one place
+one_place : (texts : List (List ℕ)) → AllPairs (λ (a b : List ℕ). a ≢ b) texts → (i j : ℕ) → i < length texts → j < length texts → get_or texts i [] ≡ get_or texts j [] → i ≡ j
+one_place texts apart i j i_in j_in e = by (side i j) (side j i)
+  where
+    by : (i < j) ⊎ (j ≤ i) → (j < i) ⊎ (i ≤ j) → i ≡ j
+    by (inl lt) _ = absurd (apart i j [] lt j_in e)
+    by (inr le) (inl lt) = absurd (apart j i [] lt i_in (sym e))
+    by (inr le) (inr ge) = omega (arith, le, ge)
 
 -- ---- what it tells
 
@@ -123,6 +180,16 @@ module _ (m : ModelData) (labels : List ℕ) (p : Blocks) (is : IsModel m) (size
   -- every right partition refines the numbered blocks too
   pub numbered_above : IsAboveRight m (block p)
   numbered_above other right s t together = same.together s t (omega (arith, size, together.states.0)) (omega (arith, size, together.states.1)) (above other right s t together)
+
+  -- the least state of a block has the number 0
+  pub least_none : (numbers different : List ℕ) (texts : List (List ℕ)) → AreCompared m p (length m.states) numbers different texts → HaveNone labels numbers
+  least_none numbers different texts are s lt some =
+      let s_in : s < length m.states = omega (arith, lt, size) in
+      let of_block = numbered.inside s s_in in
+      let least = numbered.least (block p s) of_block.0 in
+      let low = least.0 in
+      let f = first p (block p s) in
+      (f, omega (arith, low, size), same.apart f s (omega (arith, low, size)) lt least.1, are.other f low (like_first m p f (ap (first p) least.1)))
 
   -- where all states are like the least ones of their blocks, the blocks are right
   pub like_right : EntriesTellSums → ((s : ℕ) → s < length m.states → IsLike m p s) → IsRight m (block p)
@@ -165,9 +232,9 @@ module _ (m : ModelData) (labels : List ℕ) (p : Blocks) (is : IsModel m) (size
         by false e = rw (e, sym goals ∙ e) (upto e (length p.firsts))
 
     -- a split by what differs keeps apart only what every right partition does
-    pub split_above : (numbers different : List ℕ) (new : Partition) → AreCompared m p (length m.states) numbers different → IsByNumber (length m.states) (labelled labels) numbers new → IsAboveRight m new
-    split_above numbers different new are by_number other right s t together =
-        by_number s t together.states.0 together.states.1 (above other right s t together) (by (are.one s) (are.one t))
+    pub split_above : (numbers different : List ℕ) (texts : List (List ℕ)) (new : Partition) → AreCompared m p (length m.states) numbers different texts → AllPairs (λ (a b : List ℕ). a ≢ b) texts → IsByNumber (length m.states) (labelled labels) numbers new → IsAboveRight m new
+    split_above numbers different texts new are apart by_number other right s t together =
+        by_number s t together.states.0 together.states.1 (above other right s t together) (by (same_or_not (number_at numbers s) 0) (same_or_not (number_at numbers t) 0))
       where
         like : (i j : ℕ) → AreTogether m other i j → IsLike m p i → IsLike m p j
         like i j h l = record {
@@ -178,14 +245,19 @@ module _ (m : ModelData) (labels : List ℕ) (p : Blocks) (is : IsModel m) (size
         back : AreTogether m other t s
         back = record { states = (together.states.1, together.states.0); same = sym together.same }
 
-        by : (number_at numbers s ≡ 0) ⊎ (number_at numbers s ≡ 1) → (number_at numbers t ≡ 0) ⊎ (number_at numbers t ≡ 1) → number_at numbers s ≡ number_at numbers t
+        by : (number_at numbers s ≡ 0) ⊎ (number_at numbers s ≢ 0) → (number_at numbers t ≡ 0) ⊎ (number_at numbers t ≢ 0) → number_at numbers s ≡ number_at numbers t
         by (inl a) _ = a ∙ sym (are.other t together.states.1 (like s t together (are.like s together.states.0 a)))
         by (inr a) (inl b) = are.other s together.states.0 (like t s back (are.like t together.states.1 b)) ∙ sym b
-        by (inr a) (inr b) = a ∙ sym b
+        by (inr a) (inr b) =
+            let rows : get_or texts (number_at numbers s - 1) [] ≡ get_or texts (number_at numbers t - 1) [] = are.told s a ∙ ap row_text (rows_same other right s t together) ∙ sym (are.told t b) in
+            let s_low = are.places s in
+            let t_low = are.places t in
+            let same_place = one_place texts apart (number_at numbers s - 1) (number_at numbers t - 1) (grind (arith, s_low, a)) (grind (arith, t_low, b)) rows in
+            grind (arith, same_place, a, b)
 
     -- where no state differs, the blocks are the coarsest right ones
-    pub none_differs : EntriesTellSums → (numbers : List ℕ) → AreCompared m p (length m.states) numbers [] → IsCoarsest m (block p)
-    none_differs tell numbers are = record {
+    pub none_differs : EntriesTellSums → (numbers : List ℕ) (texts : List (List ℕ)) → AreCompared m p (length m.states) numbers [] texts → IsCoarsest m (block p)
+    none_differs tell numbers texts are = record {
       right = like_right tell (λ s lt. are.like s lt (zero_there s lt (same_or_not (number_at numbers s) 0)));
       above = numbered_above;
     }

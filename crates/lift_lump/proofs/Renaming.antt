@@ -2,7 +2,7 @@
 use Rattle.std.proofs.Common.{◌≡◌, ◌≢◌, ◌⊎◌, inl, inr, ⊎_elim, ℕ, zero, suc, ◌+◌, ◌*◌, ◌^◌, ◌<◌, List, length, get_or, set, refl, sym, ap, ap₂, ◌∙◌, arith}
 use Rattle.std.proofs.lemmas.List.{get_or-set_same, get_or-set_other, length-set}
 use Rattle.lift_lump.specs.Search.{IsByNumber}
-use Rattle.lift_lump.specs.declared.rename.Touched.{Touched}
+use Rattle.lift_lump.specs.declared.touch.Touched.{Touched}
 use Rattle.lift_lump.specs.Renaming.{key_of, no_touched, key_at, state_at, StandsIn, AreTouched, AreSortedKeys, HaveOneKey, AreRenamed}
 use Rattle.lift_lump.proofs.Sides.{same_or_not}
 

@@ -1,13 +1,14 @@
 -- States that are collected with their keys.
-use Rattle.std.proofs.Common.{◌≡◌, ◌≢◌, ◌⊎◌, inl, inr, ⊎_elim, ℕ, zero, suc, ◌+◌, ◌<◌, ◌≤◌, List, [], ◌∷◌, ◌++◌, length, get_or, set, map, take, All, Contains, refl, sym, ap, ◌∙◌, subst, arith}
+use Rattle.std.proofs.Common.{◌≡◌, ◌≢◌, ◌⊎◌, inl, inr, ⊎_elim, ℕ, zero, suc, ◌+◌, ◌/◌, ◌^◌, ◌<◌, ◌≤◌, List, [], ◌∷◌, ◌++◌, length, get_or, set, map, take, All, Contains, refl, sym, ap, ◌∙◌, subst, arith}
 use Rattle.std.proofs.lemmas.List.{take_all, take_more, map_push, get_or-set_other, get_or-map, length-map, get_or-take, length-take-le, get_or_append_left, get_or_push, length_push, get_or_default}
 use Rattle.std.proofs.lemmas.List.Elements.{All-nil, All-push, Contains-push_cases}
 use Rattle.std.proofs.lemmas.List.Sorted.{IsPermutation-map, Contains-permutation, All-permutation}
 use Rattle.std.specs.List.Sorted.{IsPermutation}
+use Rattle.std.proofs.lemmas.Nat.{div-mul-add}
 use Rattle.lift_lump.specs.Search.{AreMet}
-use Rattle.lift_lump.specs.declared.rename.Touched.{Touched}
-use Rattle.lift_lump.specs.Renaming.{key_of, no_touched, key_at, state_at, IsTouched, StandsIn, AreTouched, IsLookedAt, AreLookedAt, AreAllTouched}
-use Rattle.lift_lump.specs.Splitting.{AreAdded, AreGathered}
+use Rattle.lift_lump.specs.declared.touch.Touched.{Touched}
+use Rattle.lift_lump.specs.Renaming.{key_of, no_touched, key_at, state_at, IsTouched, StandsIn, AreTouched, IsLookedAt, AreLookedAt, AreAllTouched, AreKeyed}
+use Rattle.lift_lump.specs.Splitting.{AreAdded, AreGathered, HaveRest, HaveNone, IsLeft}
 use Rattle.lift_lump.proofs.Sides.{side, same_or_not}
 
 abbrev HasNumber : List ℕ → Touched → Type 0
@@ -80,6 +81,9 @@ looked_all labels numbers met i list size past are_met are = record {
 }
 
 -- the same states in another order
+pub stands_back : (old new : List Touched) → IsPermutation new old → (s : ℕ) → StandsIn new s → StandsIn old s
+stands_back old new back s there = stands_from old s (Contains-permutation (states_of new) (states_of old) s (IsPermutation-map (λ (x : Touched). x.state) new old back) (stands_to new s there))
+
 pub gathered_sorted : (old new : List Touched) → IsPermutation old new → IsPermutation new old → (labels numbers : List ℕ) (members : List (List ℕ)) → AreGathered labels numbers members old → AreGathered labels numbers members new
 gathered_sorted old new moved back labels numbers members are = record {
   touched = record {
@@ -94,7 +98,7 @@ gathered_sorted old new moved back labels numbers members are = record {
     to t there = stands_from new t (Contains-permutation (states_of old) (states_of new) t (IsPermutation-map (λ (x : Touched). x.state) old new moved) (stands_to old t there))
 
     from : (t : ℕ) → StandsIn new t → StandsIn old t
-    from t there = stands_from old t (Contains-permutation (states_of new) (states_of old) t (IsPermutation-map (λ (x : Touched). x.state) new old back) (stands_to new t there))
+    from = stands_back old new back
 
 -- ---- the rest of a block
 
@@ -177,3 +181,30 @@ one_key labels numbers touched are i j i_in j_in same = (are.each i no_touched i
 
 pub states_inside : (labels numbers : List ℕ) (touched : List Touched) → AreTouched labels numbers touched → All (λ (t : Touched). t.state < length labels) touched
 states_inside labels numbers touched are i d lt = (are.each i d lt).inside
+
+-- ---- blocks
+
+-- the block of a key is the state's label
+pub keyed_of : (labels numbers : List ℕ) (touched : List Touched) → ((s : ℕ) → get_or numbers s 0 < 2 ^ 64) → AreTouched labels numbers touched → AreKeyed labels touched
+keyed_of labels numbers touched small are i lt =
+    let s = state_at touched i in
+    ap (λ k. k / 2 ^ 64) (are.each i no_touched lt).key ∙ div-mul-add (get_or labels s 0) (2 ^ 64) (get_or numbers s 0) (small s)
+
+-- a state whose number is 0 isn't touched
+pub looked_only : (labels numbers met : List ℕ) (list : List Touched) → AreLookedAt labels numbers met list → (s : ℕ) → get_or numbers s 0 ≡ 0 → StandsIn list s → ⊥
+looked_only labels numbers met list are s none there = are.some there.0 no_touched there.1 (ap (λ u. get_or numbers u 0) there.2 ∙ none)
+
+-- ---- states that are left
+
+pub rest_sorted : (labels : List ℕ) (members : List (List ℕ)) (old new : List Touched) → ((s : ℕ) → StandsIn new s → StandsIn old s) → HaveRest labels members old → HaveRest labels members new
+rest_sorted labels members old new back rest s there =
+    ⊎_elim (λ (gone : get_or members (get_or labels s 0) [] ≡ []). inl gone)
+    (λ (left : IsLeft labels old (get_or labels s 0)). inr (record { state = left.state; inside = left.inside; label = left.label; untouched = λ t. left.untouched (back left.state t) }))
+    (rest s (back s there))
+
+-- where only states are touched whose number isn't 0, a state of each of their labels is left
+pub rest_none : (labels numbers : List ℕ) (members : List (List ℕ)) (touched : List Touched) → ((s : ℕ) → get_or numbers s 0 ≡ 0 → StandsIn touched s → ⊥) → All (λ (t : Touched). t.state < length labels) touched → HaveNone labels numbers → HaveRest labels members touched
+rest_none labels numbers members touched only states none s there =
+    let inside : s < length labels = subst (λ u. u < length labels) there.2 (states there.0 no_touched there.1) in
+    let u = none s inside (λ zero_is. only s zero_is there) in
+    inr (record { state = u.0; inside = u.1; label = u.2; untouched = only u.0 u.3 })

@@ -1,6 +1,6 @@
 -- How the states that a split touches get their new blocks.
-use Rattle.std.specs.Prelude.{◌≡◌, ◌≢◌, ℕ, ◌+◌, ◌*◌, ◌^◌, ◌<◌, ◌≤◌, List, length, slice_index_or, All}
-use Rattle.lift_lump.specs.declared.rename.Touched.{Touched}
+use Rattle.std.specs.Prelude.{◌≡◌, ◌≢◌, ℕ, ◌+◌, ◌*◌, ◌/◌, ◌^◌, ◌<◌, ◌≤◌, ◌==◌, List, length, count_by, slice_index_or, All}
+use Rattle.lift_lump.specs.declared.touch.Touched.{Touched}
 
 -- a state's block and number as one key
 abbrev pub key_of : List ℕ → List ℕ → ℕ → ℕ
@@ -13,6 +13,10 @@ no_touched = record { key = 0; state = 0 }
 -- the key at a place
 abbrev pub key_at : List Touched → ℕ → ℕ
 key_at touched i = (slice_index_or touched i no_touched).key
+
+-- the block at a place
+abbrev pub block_at : List Touched → ℕ → ℕ
+block_at touched i = key_at touched i / 2 ^ 64
 
 -- the state at a place
 abbrev pub state_at : List Touched → ℕ → ℕ
@@ -39,6 +43,25 @@ AreAllTouched labels numbers touched = (s : ℕ) → s < length labels → slice
 -- keys don't fall
 abbrev pub AreSortedKeys : List Touched → Type 0
 AreSortedKeys touched = (i j : ℕ) → i ≤ j → j < length touched → key_at touched i ≤ key_at touched j
+
+-- the block at each place is the label of the state there
+abbrev pub AreKeyed : List ℕ → List Touched → Type 0
+AreKeyed labels touched = (i : ℕ) → i < length touched → block_at touched i ≡ slice_index_or labels (state_at touched i) 0
+
+-- how many states of a block are touched
+abbrev pub touched_in : List Touched → ℕ → ℕ
+touched_in touched b = count_by (λ (t : Touched). t.key / 2 ^ 64 == b) touched
+
+-- more than half of the states of a block are touched
+abbrev pub IsCrowded : List ℕ → List Touched → ℕ → Type 0
+IsCrowded sizes touched b = slice_index_or sizes b 0 < 2 * touched_in touched b
+
+-- at the second place begins a run of states with one key, of the block whose states begin at the first one
+pub record IsRun (touched : List Touched) (from place : ℕ) : Type 0 where
+  pub inside : place < length touched
+  pub behind : from ≤ place
+  pub block : block_at touched place ≡ block_at touched from
+  pub begins : (j : ℕ) → j + 1 ≡ place → key_at touched j ≢ key_at touched place
 
 -- a state has one key
 abbrev pub HaveOneKey : List Touched → Type 0

@@ -12,7 +12,7 @@ number_at list s = slice_index_or list s 0
 
 -- the prime
 abbrev pub modulus : ℕ
-modulus = 2 ^ 61 - 1
+modulus = 2 ^ 63 - 25
 
 -- the number is the integer, up to multiples of the prime
 abbrev pub IsCongruent : ℕ → ℤ → Type 0

@@ -1,12 +1,12 @@
 -- What the labels and the lists of the states that have them keep while blocks are split.
-use Rattle.std.specs.Prelude.{◌⊎◌, ◌≡◌, ℕ, ◌^◌, ◌<◌, ◌≤◌, Bool, false, Option, Some, None, List, [], length, slice_index_or, All, Contains, if◌then◌else◌}
+use Rattle.std.specs.Prelude.{◌⊎◌, ◌≡◌, ◌≢◌, ℕ, ◌+◌, ◌<◌, ◌≤◌, ◌==◌, Bool, false, Option, Some, None, List, [], length, count_by, slice_index_or, All, Contains, if◌then◌else◌}
 use Rattle.std.specs.List.Sorted.{IsStrictlyIncreasing}
 use Rattle.lift_poly.specs.Polynomial.{Valuation}
 use Rattle.lift_model.specs.Model.{ModelData, is_goal}
 use Rattle.lift_model.specs.Valid.{IsModel}
 use Rattle.lift_lump.specs.Lumping.{Partition, IsAboveRight}
 use Rattle.lift_lump.specs.declared.arrows.Arrow.{Arrow}
-use Rattle.lift_lump.specs.declared.rename.Touched.{Touched}
+use Rattle.lift_lump.specs.declared.touch.Touched.{Touched}
 use Rattle.lift_lump.specs.Search.{number_at, marked, AreArrows, IsByNumber}
 use Rattle.lift_lump.specs.Renaming.{IsTouched, StandsIn, AreTouched, AreAllTouched, state_at}
 
@@ -14,11 +14,25 @@ use Rattle.lift_lump.specs.Renaming.{IsTouched, StandsIn, AreTouched, AreAllTouc
 abbrev pub list_of : List (List ℕ) → ℕ → List ℕ
 list_of members l = slice_index_or members l []
 
--- each label has a list and a size, and only states stand in the lists
+-- how many states have a label
+abbrev pub how_many : List ℕ → ℕ → ℕ
+how_many labels l = count_by (λ k. k == l) labels
+
+-- each label has a list and a size, which is how many states have it, and only states stand in the lists
 pub record AreInside (labels sizes : List ℕ) (members : List (List ℕ)) : Type 0 where
   pub size : length sizes ≡ length members
+  pub counted : (l : ℕ) → number_at sizes l ≡ how_many labels l
   pub below : All (λ l. l < length members) labels
   pub states : All (All (λ s. s < length labels)) members
+
+-- Of so many labels each but perhaps one is that of a state. So there is at most one more than there are states.
+pub record AreUsed (labels : List ℕ) (count : ℕ) : Type 0 where
+  pub spare : ℕ
+  pub used : (l : ℕ) → l < count → l ≢ spare → Contains labels l
+
+-- there is at most one label more than there are states
+abbrev pub AreFew : List ℕ → ℕ → Type 0
+AreFew labels count = count ≤ length labels + 1
 
 -- each state stands in the list of its label, or among the touched ones
 abbrev pub AreListedBut : List Touched → List ℕ → List (List ℕ) → Type 0
@@ -41,22 +55,20 @@ pub record AreAdded (labels numbers : List ℕ) (b : ℕ) (states : List ℕ) (o
   pub only : (t : ℕ) → StandsIn new t → StandsIn old t ⊎ ((number_at labels t ≡ b) × (number_at numbers t ≡ 0))
   pub all : (t : ℕ) → Contains states t → number_at labels t ≡ b → number_at numbers t ≡ 0 → StandsIn new t
 
--- these touched states stand in the lists of their labels now
-pub record AreSettled (labels : List ℕ) (old new : List (List ℕ)) (touched : List Touched) : Type 0 where
-  pub count : length new ≡ length old
-  pub kept : (l s : ℕ) → Contains (list_of old l) s → Contains (list_of new l) s
-  pub here : All (λ (t : Touched). Contains (list_of new (number_at labels t.state)) t.state) touched
+-- a state with that label isn't touched
+pub record IsLeft (labels : List ℕ) (touched : List Touched) (l : ℕ) : Type 0 where
+  pub state : ℕ
+  pub inside : state < length labels
+  pub label : number_at labels state ≡ l
+  pub untouched : StandsIn touched state → ⊥
 
--- the lists with some empty ones behind them
-pub record AreOpened (old new : List (List ℕ)) : Type 0 where
-  pub count : length old ≤ length new
-  pub states : (n : ℕ) → All (All (λ s. s < n)) old → All (All (λ s. s < n)) new
-  pub kept : (l s : ℕ) → Contains (list_of old l) s → Contains (list_of new l) s
+-- where a state is touched and the list of its label is there, some state with that label isn't, so the label stays in use
+abbrev pub HaveRest : List ℕ → List (List ℕ) → List Touched → Type 0
+HaveRest labels members touched = (s : ℕ) → StandsIn touched s → (list_of members (number_at labels s) ≡ []) ⊎ IsLeft labels touched (number_at labels s)
 
--- there are more now, and there were fewer than 2^32
-pub record AreMore (old new : ℕ) : Type 0 where
-  pub few : old < 2 ^ 32
-  pub more : old < new
+-- where a state has another number than 0, a state of its label has the number 0
+abbrev pub HaveNone : List ℕ → List ℕ → Type 0
+HaveNone labels numbers = (s : ℕ) → s < length labels → number_at numbers s ≢ 0 → (u : ℕ) × (u < length labels) × (number_at labels u ≡ number_at labels s) × (number_at numbers u ≡ 0)
 
 -- some states are touched, and the list of the first one's block is there
 pub record IsBegun (touched : List Touched) (labels : List ℕ) (members : List (List ℕ)) : Type 0 where

@@ -1,18 +1,18 @@
 //! The search for the coarsest right partition of a chain, with the test of what it finds.
 
-ghost use Rattle.std.specs.Prelude.{◌≡◌, length, IfOk, OnOk, IfSome, IfNone};
-ghost use Rattle.lift_lump.specs.Splitting.{AreMore};
+ghost use Rattle.std.specs.Prelude.{◌≡◌, ◌<◌, length, IfOk, OnOk, IfSome, IfNone};
+ghost use Rattle.lift_lump.specs.Splitting.{AreFew};
 ghost use Rattle.lift_lump.specs.Finding.{IsAtWork, IsFound};
 
 use crate::arrows::{Arrow, arrows_of};
-use crate::compared::{Compared, rows_of};
+use crate::compared::{Compared, Quotient, rows_of};
 use crate::laws::coarsest_is_one;
 use crate::lists::Lists;
 use crate::numbered::Numbered;
 use crate::partition::Partition;
 use crate::split::{Room, search, split_off};
 use crate::sums::Sums;
-use lift_model::{Model, Row};
+use lift_model::Model;
 use lift_poly::coefficients_determine;
 use std::alloc::{AllocError, Global};
 
@@ -49,15 +49,6 @@ pub struct Work {
     pub next: u32,
 }
 
-/// The coarsest right partition, and the rows of its quotient.
-#[derive(Drop)]
-pub struct Coarsest {
-    /// The blocks.
-    pub blocks: Numbered,
-    /// The only choice of each block.
-    pub rows: Vec<Vec<Row>>,
-}
-
 impl Work {
     /// The search at its beginning.
     fn new(alloc: Global, model: &Model) -> Result<Work, AllocError>
@@ -72,12 +63,13 @@ impl Work {
     }
 
     /// Searches, and tests exactly what is found. States that differ from the least ones of their blocks, which no
-    /// mark told apart, get blocks of their own, and the search has to go on.
-    fn turn(&mut self, alloc: Global, model: &Model) -> Result<Option<Coarsest>, AllocError>
+    /// mark told apart, get blocks of their own by their rows, and the search has to go on.
+    fn turn(&mut self, alloc: Global, model: &Model) -> Result<Option<Quotient>, AllocError>
         requires work { IsAtWork model.now self.old }
         ensures kept { OnOk result (IsAtWork model.now self.new) }
         ensures found { IfOk result (λ found. IfSome found (IsFound model.now)) }
-        ensures more { IfOk result (λ found. IfNone found (AreMore (length self.old.part.members) (length self.new.part.members))) }
+        ensures few { OnOk result (AreFew self.new.part.labels.items (length self.new.part.members)) }
+        ensures more { IfOk result (λ found. IfNone found (length self.old.part.members < length self.new.part.members)) }
     {
         coarsest_is_one();
         coefficients_determine();
@@ -92,9 +84,10 @@ impl Work {
         let blocks = Numbered::of(alloc, &self.part.labels, labels)?;
         let mut sums = Sums::new(alloc, blocks.firsts.len())?;
         let rows = rows_of(alloc, model, &blocks, &mut sums)?;
-        let compared = Compared::of(alloc, model, &blocks, &mut sums)?;
+        let found = Quotient { blocks, rows };
+        let compared = Compared::of(alloc, model, &found, &mut sums)?;
         if compared.different.is_empty() {
-            return Ok(Some(Coarsest { blocks, rows }));
+            return Ok(Some(found));
         }
         self.next = u32::try_from(labels).unwrap_or(u32::MAX);
         split_off(
@@ -108,7 +101,7 @@ impl Work {
 }
 
 /// The coarsest right partition of a chain. Each turn of the search that doesn't end it adds labels.
-pub(crate) fn find_coarsest(alloc: Global, model: &Model) -> Result<Coarsest, AllocError>
+pub(crate) fn find_coarsest(alloc: Global, model: &Model) -> Result<Quotient, AllocError>
     ensures { IfOk result (IsFound model.now) }
 {
     let mut work = Work::new(alloc, model)?;

@@ -12,14 +12,14 @@ mod lists;
 mod marks;
 mod numbered;
 mod partition;
-mod rename;
 mod small;
 mod split;
 mod sums;
+mod texts;
 mod touch;
 
 pub use arrows::Arrow;
 pub use chain::{Lumped, lump};
 pub use error::LumpError;
 pub use laws::{coarsest_is_one, quotients_are_cases, quotients_are_models, quotients_hold};
-pub use rename::Touched;
+pub use touch::Touched;

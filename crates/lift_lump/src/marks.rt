@@ -6,8 +6,9 @@ ghost use Rattle.lift_lump.specs.Search.{modulus, whole, IsCongruent};
 
 use lift_poly::MultiAffine;
 
-/// A prime, by which marks are taken.
-pub(crate) const MODULUS: u64 = (1 << 61) - 1;
+/// A prime, by which marks are taken. It is above 2^62, which the sums of constants stay below: those that differ have
+/// marks that differ.
+pub(crate) const MODULUS: u64 = (1 << 63) - 25;
 
 /// The product of two numbers, up to multiples of the prime.
 fn times(left: u64, right: u64) -> u64

@@ -1,9 +1,9 @@
 //! The search for the coarsest right partition: each block is taken once, and all blocks are split by their states'
 //! entries into it.
 
-ghost use Rattle.std.specs.Prelude.{◌≡◌, ◌≢◌, ◌<◌, ◌≤◌, ℕ, true, false, length, All, Contains, IfOk, OnOk, slice_index_or};
+ghost use Rattle.std.specs.Prelude.{◌≡◌, ◌≢◌, ◌<◌, ◌≤◌, ◌+◌, ◌^◌, ℕ, true, false, length, All, Contains, IfOk, OnOk, slice_index_or};
 ghost use Rattle.lift_lump.specs.Search.{marked, number_at, arrows_into, IsArrow, AreMet, IsByNumber};
-ghost use Rattle.lift_lump.specs.Splitting.{AreInside, AreListed, AreClear, AreTelling, IsKeptAbove, AreMore};
+ghost use Rattle.lift_lump.specs.Splitting.{AreInside, AreUsed, AreFew, AreListed, AreClear, AreTelling, IsKeptAbove, HaveNone};
 
 use crate::arrows::Arrow;
 use crate::gather::gather;
@@ -111,9 +111,13 @@ pub(crate) fn split_by(
 ) -> Result<(), AllocError>
     requires sizes { length numbers.now ≡ length part.old.labels.items }
     requires met { AreMet numbers.now met.now }
+    requires states { length part.old.labels.items + 1 < 2 ^ 32 }
     requires inside { AreInside part.old.labels.items part.old.sizes.items part.old.members }
+    requires used { AreUsed part.old.labels.items (length part.old.members) }
     requires listed { AreListed part.old.labels.items part.old.members }
     ensures inside { OnOk result (AreInside part.new.labels.items part.new.sizes.items part.new.members) }
+    ensures used { OnOk result (AreUsed part.new.labels.items (length part.new.members)) }
+    ensures few { OnOk result (AreFew part.new.labels.items (length part.new.members)) }
     ensures listed { OnOk result (AreListed part.new.labels.items part.new.members) }
     ensures size { OnOk result (length part.new.labels.items ≡ length part.old.labels.items) }
     ensures count { OnOk result (length part.old.members ≤ length part.new.members) }
@@ -121,14 +125,15 @@ pub(crate) fn split_by(
         numbers.now (λ s. slice_index_or part.new.labels.items s 0)) }
 {
     let mut touched = touched_of(alloc, &part.labels, numbers, met)?;
+    sort(&mut touched);
     add_rests(alloc, &mut touched, part, numbers)?;
     sort(&mut touched);
     regroup(alloc, &touched, part)?;
     Ok(())
 }
 
-/// Splits blocks by the numbers of their states, of which some aren't 0. Those whose number is 0 keep their labels, so
-/// new ones come up.
+/// Splits blocks by the numbers of their states, of which some aren't 0. Those whose number is 0 keep their labels, and
+/// each of these labels has some, so new ones come up.
 pub(crate) fn split_off(
     alloc: Global,
     part: &mut Partition,
@@ -139,12 +144,17 @@ pub(crate) fn split_off(
     requires met { AreMet numbers.now met.now }
     requires some { 0 < length met.now }
     requires others { All (λ s. (s < length numbers.now) × (number_at numbers.now s ≢ 0)) met.now }
+    requires none { HaveNone part.old.labels.items numbers.now }
+    requires states { length part.old.labels.items + 1 < 2 ^ 32 }
     requires inside { AreInside part.old.labels.items part.old.sizes.items part.old.members }
+    requires used { AreUsed part.old.labels.items (length part.old.members) }
     requires listed { AreListed part.old.labels.items part.old.members }
     ensures inside { OnOk result (AreInside part.new.labels.items part.new.sizes.items part.new.members) }
+    ensures used { OnOk result (AreUsed part.new.labels.items (length part.new.members)) }
+    ensures few { OnOk result (AreFew part.new.labels.items (length part.new.members)) }
     ensures listed { OnOk result (AreListed part.new.labels.items part.new.members) }
     ensures size { OnOk result (length part.new.labels.items ≡ length part.old.labels.items) }
-    ensures more { OnOk result (AreMore (length part.old.members) (length part.new.members)) }
+    ensures more { OnOk result (length part.old.members < length part.new.members) }
     ensures numbers { OnOk result (IsByNumber (length part.old.labels.items) (λ s. slice_index_or part.old.labels.items s 0)
         numbers.now (λ s. slice_index_or part.new.labels.items s 0)) }
 {
@@ -165,10 +175,14 @@ fn split(
     requires block { block < length part.old.members }
     requires count { length arrows.now ≡ length part.old.labels.items }
     requires arrows { All (All (IsArrow (length part.old.labels.items))) arrows.now }
+    requires states { length part.old.labels.items + 1 < 2 ^ 32 }
     requires inside { AreInside part.old.labels.items part.old.sizes.items part.old.members }
+    requires used { AreUsed part.old.labels.items (length part.old.members) }
     requires listed { AreListed part.old.labels.items part.old.members }
     requires clear { AreClear (length part.old.labels.items) room.old.numbers.items room.old.marks.items }
     ensures inside { OnOk result (AreInside part.new.labels.items part.new.sizes.items part.new.members) }
+    ensures used { OnOk result (AreUsed part.new.labels.items (length part.new.members)) }
+    ensures few { OnOk result (AreFew part.new.labels.items (length part.new.members)) }
     ensures listed { OnOk result (AreListed part.new.labels.items part.new.members) }
     ensures size { OnOk result (length part.new.labels.items ≡ length part.old.labels.items) }
     ensures count { OnOk result (length part.old.members ≤ length part.new.members) }
@@ -194,10 +208,14 @@ pub(crate) fn search(
 ) -> Result<(), AllocError>
     requires count { length arrows.now ≡ length part.old.labels.items }
     requires arrows { All (All (IsArrow (length part.old.labels.items))) arrows.now }
+    requires states { length part.old.labels.items + 1 < 2 ^ 32 }
     requires inside { AreInside part.old.labels.items part.old.sizes.items part.old.members }
+    requires used { AreUsed part.old.labels.items (length part.old.members) }
     requires listed { AreListed part.old.labels.items part.old.members }
     requires clear { AreClear (length part.old.labels.items) room.old.numbers.items room.old.marks.items }
     ensures inside { OnOk result (AreInside part.new.labels.items part.new.sizes.items part.new.members) }
+    ensures used { OnOk result (AreUsed part.new.labels.items (length part.new.members)) }
+    ensures few { OnOk result (AreFew part.new.labels.items (length part.new.members)) }
     ensures listed { OnOk result (AreListed part.new.labels.items part.new.members) }
     ensures size { OnOk result (length part.new.labels.items ≡ length part.old.labels.items) }
     ensures count { OnOk result (length part.old.members ≤ length part.new.members) }

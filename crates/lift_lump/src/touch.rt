@@ -1,12 +1,20 @@
 //! The states that entries lead from into a block.
 
 ghost use Rattle.std.specs.Prelude.{◌≡◌, ◌<◌, ◌∷◌, [], ℕ, List, All, length, IfOk, OnOk};
-ghost use Rattle.lift_lump.specs.Search.{AreMet};
-ghost use Rattle.lift_lump.specs.Renaming.{AreTouched, AreSortedKeys, IsLookedAt, key_of, AreAllTouched};
+ghost use Rattle.lift_lump.specs.Search.{AreMet, number_at};
+ghost use Rattle.lift_lump.specs.Renaming.{AreTouched, AreSortedKeys, IsLookedAt, key_of, AreAllTouched, StandsIn};
 ghost use Rattle.lift_lump.specs.Splitting.{AreAdded, AreGathered};
 
-use crate::rename::Touched;
 use std::alloc::{AllocError, Global};
+
+/// A state that entries lead from into a set.
+#[derive(Clone, Copy)]
+pub struct Touched {
+    /// Its block and its number, as one number.
+    pub key: u128,
+    /// The state.
+    pub state: u32,
+}
 
 /// A state with its key.
 fn keyed(labels: &[u32], numbers: &[u64], s: u32) -> Touched
@@ -46,6 +54,7 @@ pub(crate) fn touched_of(
     requires met { AreMet numbers.now met.now }
     ensures touched { IfOk result (λ list. AreTouched labels.now numbers.now list.items) }
     ensures all { IfOk result (λ list. AreAllTouched labels.now numbers.now list.items) }
+    ensures only { IfOk result (λ list. (s : ℕ) → number_at numbers.now s ≡ 0 → StandsIn list.items s → ⊥) }
 {
     let mut list = Vec::with_capacity(alloc, met.len())?;
     for s in met {
@@ -57,6 +66,7 @@ pub(crate) fn touched_of(
 /// Sorts touched states by block and number.
 pub(crate) fn sort(touched: &mut Vec<Touched>)
     ensures sorted { AreSortedKeys touched.new.items }
+    ensures stand { (s : ℕ) → StandsIn touched.new.items s → StandsIn touched.old.items s }
     ensures same { (labels numbers : List ℕ) (members : List (List ℕ))
         → AreGathered labels numbers members touched.old.items → AreGathered labels numbers members touched.new.items }
 {

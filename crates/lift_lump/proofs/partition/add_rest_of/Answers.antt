@@ -1,5 +1,6 @@
-use Rattle.std.proofs.Common.{◌<◌, [], ℕ, List, All, length, get_or, sym, subst, ap, ◌∙◌, refl}
-use Rattle.std.proofs.lemmas.List.{length-set}
+use Rattle.std.proofs.Common.{◌≡◌, inl, inr, ⊎_elim, ◌<◌, [], ℕ, List, All, length, get_or, sym, subst, ◌∙◌, refl}
+use Rattle.lift_lump.specs.Search.{number_at}
+use Rattle.lift_lump.specs.Renaming.{StandsIn}
 use Rattle.lift_lump.specs.Splitting.{AreInside, AreGathered, AreAdded}
 use Rattle.lift_lump.proofs.Settling.{inside_taken}
 use Rattle.lift_lump.proofs.Touching.{gathered_rest}
@@ -25,6 +26,7 @@ returns c =
     record {
       inside = subst (AreInside labels part.sizes.items) (sym rest) (inside_taken labels part.sizes.items part.members c.args.block c.requires.inside);
       gathered = subst (λ (ms : List (List ℕ)). AreGathered labels c.args.numbers.now ms new) (sym rest) (gathered_rest labels c.args.numbers.now part.members c.args.block old new c.requires.block c.requires.gathered added);
-      count = ap length rest ∙ length-set part.members c.args.block [];
+      members = rest;
+      only = λ t there. ⊎_elim (λ (was : StandsIn old t). inl was) (λ (is : (number_at labels t ≡ c.args.block) × (number_at c.args.numbers.now t ≡ 0)). inr is.0) (added.only t there);
       same = refl;
     }

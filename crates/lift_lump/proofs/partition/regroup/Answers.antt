@@ -1,38 +1,95 @@
-use Rattle.std.proofs.Common.{◌≡◌, ◌<◌, ◌++◌, ℕ, List, All, length, get_or, take, drop, sym, subst, ap, ◌∙◌, arith}
-use Rattle.lift_lump.specs.Search.{IsByNumber}
-use Rattle.lift_lump.specs.Renaming.{AreTouched, AreRenamed}
-use Rattle.lift_lump.specs.Splitting.{AreSettled, AreListed, AreMore}
-use Rattle.lift_lump.proofs.Settling.{written, inside_written, listed_again}
+use Rattle.std.proofs.Common.{◌≡◌, ◌<◌, ◌+◌, ℕ, List, length, set, sym, subst, ap, ◌∙◌, arith}
+use Rattle.std.proofs.lemmas.List.{get_or_default}
+use Rattle.lift_lump.specs.Renaming.{AreRenamed, state_at}
+use Rattle.lift_lump.specs.Splitting.{list_of}
+use Rattle.lift_lump.proofs.Holders.{few_labels}
+use Rattle.lift_lump.proofs.Renaming.{renamed_by_number}
+use Rattle.lift_lump.proofs.Regrouping.{AreRegrouped, IsName, regrouped_none, regrouped_more, next_in, still_used, s_in, listed_again as listed_at_last}
 use Rattle.lift_lump.proofs.partition.regroup.Goals as goal
 
-pub settle-requires-clause-inside : goal.settle-requires-clause-inside
-settle-requires-clause-inside c =
-    let part = c.names_for.new.part in
-    let most = length part.members in
-    let labels = c.deref_mut-2.ensures in
-    let sizes = c.deref_mut.ensures in
-    inside_written part.labels.items part.sizes.items c.rename.new.labels c.leave.new.sizes part.labels.len part.sizes.len part.members c.in_ok-names.ensures.inside
-    (c.rename.ensures.renamed.size ∙ labels.len) (sym labels.len ∙ ap length labels.value) (c.leave.auto.sizes ∙ sizes.len) (sym sizes.len ∙ ap length sizes.value)
-    (c.rename.ensures.below most (subst (All (λ n. n < most)) (sym c.deref-2.ensures.value) c.in_ok-names.ensures.names) (subst (All (λ l. l < most)) (sym labels.value) c.in_ok-names.ensures.inside.below))
+pub loop-i-init : goal.loop-i-init
+loop-i-init c = record {
+  inside = c.requires.inside;
+  regrouped = regrouped_none c.args.touched.now c.args.part.now.labels.items c.args.part.now.members 0 0;
+}
 
-pub returns : goal.returns
-returns c =
+pub name-requires-clause-few : goal.name-requires-clause-few
+name-requires-clause-few c =
+    let r = c.requires in
+    let old = c.args.part.now in
+    let part = c.loop-i.part in
+    let are = c.loop-i.invariant.regrouped in
+    let used = still_used c.args.touched.now old.labels.items old.members r.sorted r.keys r.keyed r.touched r.inside.below r.used r.rest r.listed c.loop-i.i c.loop-i.name c.loop-i.keeper part.labels.items part.members (let lt = c.loop-i-test.true in omega (arith, lt)) are in
+    let few = few_labels part.labels.items (length part.members) used in
+    let size = are.renamed.size in
+    let states = r.states in
+    omega (arith, few, size, states)
+
+pub place-requires-clause-label : goal.place-requires-clause-label
+place-requires-clause-label c =
+    let r = c.requires in
+    let old = c.args.part.now in
+    let part = c.loop-i.part in
     let touched = c.args.touched.now in
-    let opened = c.names_for.new.part in
-    let after = c.settle.new.part in
-    let new = c.rename.new.labels in
-    let written_is : take opened.labels.len (new ++ drop (length new) opened.labels.items) ≡ new = written new opened.labels.items opened.labels.len (c.rename.ensures.renamed.size ∙ c.deref_mut-2.ensures.len) in
-    let old : c.deref_mut-2.result.now ≡ c.args.part.now.labels.items = c.deref_mut-2.ensures.value ∙ c.in_ok-names.ensures.same in
-    let is : after.labels.items ≡ new = c.in_ok-settle.ensures.same ∙ written_is in
+    let i = c.loop-i.i in
+    let are = c.loop-i.invariant.regrouped in
+    let inside = s_in touched old.labels.items old.members r.sorted r.keys r.keyed r.touched r.inside.below r.used r.rest r.listed i c.loop-i.name c.loop-i.keeper part.labels.items part.members c.loop-i-test.true are in
+    let own = c.index-own.result.now in
+    let own_is = c.index-own.ensures ∙ get_or_default part.labels.items _ own 0 inside in
+    let named : IsName touched part.members c.name.new.self.members i c.keeper_of-keeper.result own c.loop-i.name c.in_ok-name.name c.is_named.result = record {
+      new = λ e. let n = c.is_named.ensures.new e in (n.0, n.1, c.in_ok-name.ensures.new e, c.in_ok-name.ensures.opened e);
+      other = λ e. (c.is_named.ensures.other e, λ b. c.in_ok-name.ensures.kept e ∙ c.kept_name.ensures.first b, λ f. c.in_ok-name.ensures.kept e ∙ c.kept_name.ensures.other f.0 f.1, c.in_ok-name.ensures.same e);
+    } in
+    let list_is : c.list.result.now ≡ list_of part.members own = c.list.ensures in
+    next_in touched old.labels.items old.members r.sorted r.keys r.keyed r.touched r.inside.below r.used r.rest r.listed i c.loop-i.name c.loop-i.keeper part.labels.items part.members c.loop-i-test.true are
+    c.in_ok-name.name c.keeper_of-keeper.result own c.name.new.self.members c.is_named.result own_is named c.keeper_of-keeper.ensures.same
+    (λ b gone. c.keeper_of-keeper.ensures.gone b (list_is ∙ gone)) (λ b some. c.keeper_of-keeper.ensures.there b (subst (λ (xs : List ℕ). 0 < length xs) (sym list_is) some))
+
+pub loop-i-preserved : goal.loop-i-preserved
+loop-i-preserved c =
+    let r = c.requires in
+    let old = c.args.part.now in
+    let part = c.loop-i.part in
+    let touched = c.args.touched.now in
+    let i = c.loop-i.i in
+    let are = c.loop-i.invariant.regrouped in
+    let inside = s_in touched old.labels.items old.members r.sorted r.keys r.keyed r.touched r.inside.below r.used r.rest r.listed i c.loop-i.name c.loop-i.keeper part.labels.items part.members c.loop-i-test.true are in
+    let own = c.index-own.result.now in
+    let own_is = c.index-own.ensures ∙ get_or_default part.labels.items _ own 0 inside in
+    let named : IsName touched part.members c.name.new.self.members i c.keeper_of-keeper.result own c.loop-i.name c.in_ok-name.name c.is_named.result = record {
+      new = λ e. let n = c.is_named.ensures.new e in (n.0, n.1, c.in_ok-name.ensures.new e, c.in_ok-name.ensures.opened e);
+      other = λ e. (c.is_named.ensures.other e, λ b. c.in_ok-name.ensures.kept e ∙ c.kept_name.ensures.first b, λ f. c.in_ok-name.ensures.kept e ∙ c.kept_name.ensures.other f.0 f.1, c.in_ok-name.ensures.same e);
+    } in
+    let list_is : c.list.result.now ≡ list_of part.members own = c.list.ensures in
+    let more = regrouped_more touched old.labels.items old.members r.sorted r.keys r.keyed r.touched r.inside.below r.used r.rest r.listed i c.loop-i.name c.loop-i.keeper part.labels.items part.members c.loop-i-test.true are
+    c.in_ok-name.name c.keeper_of-keeper.result own c.name.new.self.members c.is_named.result own_is named c.keeper_of-keeper.ensures.same
+    (λ b gone. c.keeper_of-keeper.ensures.gone b (list_is ∙ gone)) (λ b some. c.keeper_of-keeper.ensures.there b (subst (λ (xs : List ℕ). 0 < length xs) (sym list_is) some)) in
+    let labels = c.place.ensures.labels ∙ ap (λ (ls : List ℕ). set ls (state_at touched i) c.in_ok-name.name) c.in_ok-name.ensures.labels in
     record {
-      inside = c.in_ok-settle.ensures.inside;
-      listed = subst (λ (ls : List ℕ). AreListed ls after.members) (sym is)
-          (listed_again touched c.args.part.now.labels.items new c.args.part.now.members opened.members after.members c.requires.listed c.in_ok-names.ensures.opened
-          (subst (λ (o : List ℕ). AreRenamed touched o new (length touched)) old c.rename.ensures.renamed)
-          (subst (λ (ls : List ℕ). AreSettled ls opened.members after.members touched) written_is c.in_ok-settle.ensures.settled));
-      kept = let opened = c.in_ok-names.ensures.opened.count in let settled = c.in_ok-settle.ensures.settled.count in omega (arith, opened, settled);
-      more = λ begun. subst (λ n. AreMore (length c.args.part.now.members) n) (sym c.in_ok-settle.ensures.settled.count) (c.in_ok-names.ensures.more begun);
-      size = ap length is ∙ c.rename.ensures.renamed.size ∙ ap length old;
-      numbers = subst (λ (n : List ℕ). (numbers : List ℕ) → AreTouched c.args.part.now.labels.items numbers touched → IsByNumber (length c.args.part.now.labels.items) (λ s. get_or c.args.part.now.labels.items s 0) numbers (λ s. get_or n s 0)) (sym is)
-          (subst (λ (o : List ℕ). (numbers : List ℕ) → AreTouched o numbers touched → IsByNumber (length o) (λ s. get_or o s 0) numbers (λ s. get_or new s 0)) old c.rename.ensures.numbers);
+      inside = c.in_ok-place.ensures.inside;
+      regrouped = subst (λ (ls : List ℕ). AreRegrouped touched old.labels.items old.members (i + 1) c.in_ok-name.name c.keeper_of-keeper.result ls c.place.new.self.members) (sym labels)
+          (subst (AreRegrouped touched old.labels.items old.members (i + 1) c.in_ok-name.name c.keeper_of-keeper.result (set part.labels.items (state_at touched i) c.in_ok-name.name)) (sym c.in_ok-place.ensures.members) more);
     }
+
+pub returns-clause-used : goal.returns-clause-used
+returns-clause-used c =
+    let r = c.requires in
+    let old = c.args.part.now in
+    let part = c.loop-i.part in
+    still_used c.args.touched.now old.labels.items old.members r.sorted r.keys r.keyed r.touched r.inside.below r.used r.rest r.listed c.loop-i.i c.loop-i.name c.loop-i.keeper part.labels.items part.members (let end = c.loop-i.auto.i-end in omega (arith, end)) c.loop-i.invariant.regrouped
+
+pub returns-clause-listed : goal.returns-clause-listed
+returns-clause-listed c =
+    let r = c.requires in
+    let old = c.args.part.now in
+    let part = c.loop-i.part in
+    let touched = c.args.touched.now in
+    let all : c.loop-i.i ≡ length touched = (let end = c.loop-i.auto.i-end in let past = c.loop-i-test.false in omega (arith, end, past)) in
+    listed_at_last touched old.labels.items old.members r.sorted r.keys r.keyed r.touched r.inside.below r.used r.rest r.listed c.loop-i.name c.loop-i.keeper part.labels.items part.members
+    (subst (λ n. AreRegrouped touched old.labels.items old.members n c.loop-i.name c.loop-i.keeper part.labels.items part.members) all c.loop-i.invariant.regrouped)
+
+pub returns-clause-numbers : goal.returns-clause-numbers
+returns-clause-numbers c =
+    let touched = c.args.touched.now in
+    let all : c.loop-i.i ≡ length touched = (let end = c.loop-i.auto.i-end in let past = c.loop-i-test.false in omega (arith, end, past)) in
+    renamed_by_number touched c.args.part.now.labels.items c.loop-i.part.labels.items (subst (AreRenamed touched c.args.part.now.labels.items c.loop-i.part.labels.items) all c.loop-i.invariant.regrouped.renamed)

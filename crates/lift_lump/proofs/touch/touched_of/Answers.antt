@@ -1,4 +1,5 @@
-use Rattle.lift_lump.proofs.Touching.{looked_more, looked_all, looked_some}
+use Rattle.std.proofs.Common.{take}
+use Rattle.lift_lump.proofs.Touching.{looked_more, looked_all, looked_some, looked_only}
 use Rattle.lift_lump.proofs.touch.touched_of.Goals as goal
 
 pub loop-s-preserved : goal.loop-s-preserved
@@ -9,3 +10,6 @@ returns-clause-touched c = looked_all c.args.labels.now c.args.numbers.now c.arg
 
 pub returns-clause-all : goal.returns-clause-all
 returns-clause-all c = looked_some c.args.labels.now c.args.numbers.now c.args.met.now c.loop-s.s-index c.loop-s.list.items c.requires.sizes c.loop-s-test.false c.requires.met c.loop-s.invariant
+
+pub returns-clause-only : goal.returns-clause-only
+returns-clause-only c = looked_only c.args.labels.now c.args.numbers.now (take c.loop-s.s-index c.args.met.now) c.loop-s.list.items c.loop-s.invariant

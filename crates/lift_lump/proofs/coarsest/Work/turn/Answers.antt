@@ -2,9 +2,9 @@ use Rattle.std.proofs.Common.{◌≡◌, ℕ, Bool, true, List, [], ◌∷◌, A
 use Rattle.std.proofs.lemmas.Bool.Decides.{nat_tests}
 use Rattle.lift_lump.specs.Quotient.{AreNumbered}
 use Rattle.lift_lump.specs.Search.{IsArrow, IsByNumber}
-use Rattle.lift_lump.specs.Splitting.{AreClear, AreSameBlocks, labelled}
+use Rattle.lift_lump.specs.Splitting.{AreClear, AreSameBlocks, HaveNone, labelled}
 use Rattle.lift_lump.specs.Comparing.{blocks_of, AreCompared}
-use Rattle.lift_lump.proofs.Likening.{none_differs, split_above}
+use Rattle.lift_lump.proofs.Likening.{none_differs, least_none, split_above}
 use Rattle.lift_lump.proofs.coarsest.Work.turn.Goals as goal
 
 pub search-requires-clause-count : goal.search-requires-clause-count
@@ -15,6 +15,12 @@ search-requires-clause-arrows c = subst (λ n. All (All (IsArrow n)) c.args.self
 
 pub search-requires-clause-inside : goal.search-requires-clause-inside
 search-requires-clause-inside c = c.requires.work.inside
+
+pub search-requires-clause-states : goal.search-requires-clause-states
+search-requires-clause-states c = let size = c.requires.work.size in let most = c.requires.work.valid.count.1 in omega (arith, size, most)
+
+pub search-requires-clause-used : goal.search-requires-clause-used
+search-requires-clause-used c = c.requires.work.used
 
 pub search-requires-clause-listed : goal.search-requires-clause-listed
 search-requires-clause-listed c = c.requires.work.listed
@@ -43,12 +49,28 @@ returns-then-is_empty-clause-found c =
     let different = c.in_ok-compared.compared.different in
     let none : different.items ≡ [] = list_none different.items (sym different.ok.0 ∙ empty_is c.is_empty.result different.len c.is_empty.ensures c.if-is_empty.true) in
     let numbers = c.in_ok-compared.compared.numbers.items in
-    let compared = subst (AreCompared m p (length m.states) numbers) none c.in_ok-compared.ensures in
+    let texts = c.in_ok-compared.compared.texts in
+    let compared = subst (λ (ds : List ℕ). AreCompared m p (length m.states) numbers ds texts) none c.in_ok-compared.ensures.compared in
     record {
-      coarsest = none_differs m labels p work.valid size numbered same above laws.polynomial laws.coefficients laws.unique c.coarsest_is_one.ensures.told numbers compared;
+      coarsest = none_differs m labels p work.valid size numbered same above laws.polynomial laws.coefficients laws.unique c.coarsest_is_one.ensures.told numbers texts compared;
       numbered = numbered;
       rows = c.in_ok-rows.ensures.rows;
     }
+
+pub split_off-requires-clause-none : goal.split_off-requires-clause-none
+split_off-requires-clause-none c =
+    let m = c.args.model.now in
+    let work = c.requires.work in
+    let labels = c.search.new.part.labels.items in
+    let p = blocks_of c.in_ok-blocks.blocks in
+    let size : length labels ≡ length m.states = c.in_ok-search.ensures.size ∙ work.size in
+    let above = c.in_ok-search.ensures.kept m work.marks.0 work.valid (sym work.size) work.marks.1 work.above in
+    let numbered = subst (λ n. AreNumbered n p) (ap length c.deref.ensures.value ∙ size) c.in_ok-blocks.ensures.numbered in
+    let same = subst (λ (ls : List ℕ). AreSameBlocks ls p.of_states) c.deref.ensures.value c.in_ok-blocks.ensures.told in
+    subst (HaveNone labels) (sym c.deref-2.ensures.value) (least_none m labels p work.valid size numbered same above c.in_ok-compared.compared.numbers.items c.in_ok-compared.compared.different.items c.in_ok-compared.compared.texts c.in_ok-compared.ensures.compared)
+
+pub split_off-requires-clause-states : goal.split_off-requires-clause-states
+split_off-requires-clause-states c = let same = c.in_ok-search.ensures.size in let size = c.requires.work.size in let most = c.requires.work.valid.count.1 in omega (arith, same, size, most)
 
 pub returns-clause-kept : goal.returns-clause-kept
 returns-clause-kept c =
@@ -70,8 +92,9 @@ returns-clause-kept c =
       arrows = work.arrows;
       marks = work.marks;
       inside = c.in_ok-split_off.ensures.inside;
+      used = c.in_ok-split_off.ensures.used;
       listed = c.in_ok-split_off.ensures.listed;
       size = c.in_ok-split_off.ensures.size ∙ size;
       clear = subst (λ n. AreClear n c.search.new.room.numbers.items c.search.new.room.marks.items) work.size c.in_ok-search.ensures.clear;
-      above = split_above m labels p work.valid size numbered same above laws.polynomial laws.coefficients laws.unique numbers c.in_ok-compared.compared.different.items new c.in_ok-compared.ensures by_number;
+      above = split_above m labels p work.valid size numbered same above laws.polynomial laws.coefficients laws.unique numbers c.in_ok-compared.compared.different.items c.in_ok-compared.compared.texts new c.in_ok-compared.ensures.compared c.in_ok-compared.ensures.apart by_number;
     }

@@ -1,0 +1,7 @@
+use Rattle.std.proofs.Common.{ℕ, List, ◌++◌, ap, ◌∙◌}
+use Rattle.lift_lump.specs.Comparing.{target_text}
+use Rattle.lift_lump.proofs.texts.add_target.Goals as goal
+
+pub returns : goal.returns
+unfolding target_text
+returns c = c.in_ok-extend_from_slice.ensures.items ∙ ap (λ (ys : List ℕ). c.args.text.now.items ++ ys) c.to_le_bytes.ensures
