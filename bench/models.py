@@ -8,6 +8,18 @@
     models.py mixed STATES          rows over four parameters, to three states above, one below and a sink
     models.py deep LAYERS WIDTH     layers of states with four choices each, on to the next layer or some layers back
     models.py component STATES      a chain in which nearly all states reach each other, from anywhere to anywhere
+
+Hardware that fails rarely, with a fault in a cycle with p and a repair with q. A mission ends, safe, after 10^M cycles on
+average; the goal is "lost". There are few states, and many steps:
+
+    models.py memory BITS M         a word that is scrubbed; a fault more than BITS loses it
+    models.py disks COUNT SPARE M   an array of disks, rebuilt one by one; more than SPARE broken ones lose it
+    models.py watchdog COUNT M      a processor that hangs, until a timer of so many cycles resets it, if it isn't stuck
+    models.py ring STATIONS M       a token goes around; where it is lost, a fault may make two
+    models.py bus LIMIT M           a node whose counter of errors rises by 8 and falls by 1; at the limit it is off
+    models.py spares COUNT M        units that take over from one another; while one does, a fault loses it
+    models.py queue LENGTH M        a buffer that is filled with p and emptied with q, until it flows over
+    models.py nested LEVELS M       faults behind faults, each ten times as slow as the one before
 """
 
 from __future__ import annotations
@@ -15,7 +27,7 @@ from __future__ import annotations
 import random
 import sys
 from dataclasses import dataclass
-from typing import Iterable, List, Tuple
+from typing import Callable, Iterable, List, Tuple
 
 # The targets of a choice and their values; and a state: its labels and its choices.
 Row = List[Tuple[int, str]]
@@ -185,7 +197,115 @@ def component(count: int) -> str:
     return text("DTMC", ["p", "q"], states)
 
 
-FAMILIES = {family.__name__: family for family in (relay, robot, walk, dice, mixed, deep, component)}
+# ---- hardware that fails rarely
+
+
+def cycles(rows: list[Row], parameters: list[str]) -> str:
+    """A chain of these rows, each of which stays in its state with what is left of 1. Two ends follow: safe, and lost."""
+    states: list[State] = []
+    for here, row in enumerate(rows):
+        stay = "1-(%s)" % "+".join("(%s)" % value for _, value in row)
+        states.append((["init"] if here == 0 else [], [row_of([*row, (here, stay)])]))
+    for name in ("safe", "lost"):
+        states.append(([name], [[(len(states), "1")]]))
+    return text("DTMC", parameters, states)
+
+
+def over(mission: int) -> str:
+    """The chance that a mission ends in a cycle."""
+    return "1/%d" % 10**mission
+
+
+def memory(bits: int, mission: int) -> str:
+    """State e: so many wrong bits, of 64. Scrubbing sets all right again."""
+    safe, lost = bits + 1, bits + 2
+    rows: list[Row] = []
+    for wrong in range(bits + 1):
+        more = lost if wrong == bits else wrong + 1
+        rows.append([(more, "%d*p" % (64 - wrong)), (safe, over(mission))] + ([(0, "q")] if wrong else []))
+    return cycles(rows, ["p", "q"])
+
+
+def disks(count: int, spare: int, mission: int) -> str:
+    """State b: so many broken disks, of which one is rebuilt at a time."""
+    safe, lost = spare + 1, spare + 2
+    rows: list[Row] = []
+    for broken in range(spare + 1):
+        more = lost if broken == spare else broken + 1
+        row = [(more, "%d*p" % (count - broken)), (safe, over(mission))]
+        rows.append(row + ([(broken - 1, "q")] if broken else []))
+    return cycles(rows, ["p", "q"])
+
+
+def watchdog(count: int, mission: int) -> str:
+    """State 0 works, 1 to COUNT: hung for so many cycles. Then the timer bites, or is stuck with p."""
+    safe, lost = count + 1, count + 2
+    rows: list[Row] = [[(1, "p"), (safe, over(mission))]]
+    for hung in range(1, count):
+        rows.append([(hung + 1, "(1-q)*(1-p)"), (0, "q*(1-p)")])
+    rows.append([(0, "(1-p)/2"), (lost, "p/2")])
+    return cycles(rows, ["p", "q"])
+
+
+def ring(stations: int, mission: int) -> str:
+    """State s: station s has the token. After the stations comes the state in which it is lost."""
+    missing, safe, lost = stations, stations + 1, stations + 2
+    rows: list[Row] = []
+    for station in range(stations):
+        row = [((station + 1) % stations, "1-p-1/10"), (missing, "p")]
+        rows.append(row + ([(safe, over(mission))] if station == 0 else []))
+    rows.append([(0, "q*(1-p)"), (lost, "q*p")])
+    return cycles(rows, ["p", "q"])
+
+
+def bus(limit: int, mission: int) -> str:
+    """State c: the counter. An error comes in a burst with q, once the counter isn't 0."""
+    safe, lost = limit, limit + 1
+    rows: list[Row] = [[(8 if limit > 8 else lost, "p"), (safe, over(mission))]]
+    for counter in range(1, limit):
+        more = counter + 8 if counter + 8 < limit else lost
+        rows.append([(more, "q"), (counter - 1, "9/10-q")])
+    return cycles(rows, ["p", "q"])
+
+
+def spares(count: int, mission: int) -> str:
+    """State 2b: so many broken units; state 2b+1: the same, while another one takes over."""
+    safe, lost = 2 * count, 2 * count + 1
+    rows: list[Row] = []
+    for broken in range(count):
+        more = lost if broken + 1 == count else 2 * broken + 3
+        row = [(more, "p"), (safe, over(mission))]
+        rows.append(row + ([(2 * broken - 2, "q/100")] if broken else []))
+        rows.append([(2 * broken, "q"), (lost, "p")])
+    return cycles(rows, ["p", "q"])
+
+
+def queue(length: int, mission: int) -> str:
+    """State n: so many wait."""
+    safe, lost = length + 1, length + 2
+    rows: list[Row] = []
+    for wait in range(length + 1):
+        row = [(lost if wait == length else wait + 1, "p*(1-q)"), (safe, over(mission))]
+        rows.append(row + ([(wait - 1, "q*(1-p)")] if wait else []))
+    return cycles(rows, ["p", "q"])
+
+
+def nested(levels: int, mission: int) -> str:
+    """State l: faults of so many levels."""
+    safe, lost = levels, levels + 1
+    rows: list[Row] = []
+    for level in range(levels):
+        more = lost if level + 1 == levels else level + 1
+        row = [(more, "p/%d" % 10**level)] + ([(safe, over(mission))] if level == 0 else [])
+        rows.append(row + ([(level - 1, "q/%d" % 10**level)] if level else []))
+    return cycles(rows, ["p", "q"])
+
+
+RARE: tuple[Callable[..., str], ...] = (memory, disks, watchdog, ring, bus, spares, queue, nested)
+
+PLAIN: tuple[Callable[..., str], ...] = (relay, robot, walk, dice, mixed, deep, component)
+
+FAMILIES = {family.__name__: family for family in (*PLAIN, *RARE)}
 
 if __name__ == "__main__":
     if len(sys.argv) < 3 or sys.argv[1] not in FAMILIES:

@@ -57,7 +57,7 @@ lowered-at m (x ∷ xs) (y ∷ ys) zero le e = lesser_is x (y +ℤ m)
 lowered-at m (x ∷ xs) (y ∷ ys) (suc s) le e = lowered-at m xs ys s le (omega (arith, e))
 
 -- the list of the first values of a function, so many
-listed : ℕ → (ℕ → ℤ) → List ℤ
+pub listed : ℕ → (ℕ → ℤ) → List ℤ
 listed zero f = []
 listed (suc n) f = f 0 ∷ listed n (λ i. f (suc i))
 
@@ -93,6 +93,13 @@ sure_of r k guess x noted s e h = ⊎_elim
     (λ (sure : (number x s ≡ pos 0) ⊎ (is_given k.model r.ends s ≡ true)). inr sure)
     h
 
+-- a bound that is at most m more than another, and at least each number that is no more than that, nor than one of a vector with the given numbers
+pub record IsMovedUp (r : Rule) (k : CaseData) (spans : Spans) (y : List ℤ) (m : ℤ) : Type 0 where
+  pub vector : List ℤ
+  pub bound : IsEnoughEverywhere r k spans vector
+  pub most : (s : ℕ) → number vector s ≤ℤ (number y s +ℤ m)
+  pub least : (x : List ℤ) → IsGuess r k x → (s : ℕ) (v : ℤ) → v ≤ℤ number x s → v ≤ℤ (number y s +ℤ m) → v ≤ℤ number vector s
+
 module _ (laws : RowLaws) (t : TableData) (spans : Spans) (read : IsRead t spans) where
   abbrev k : CaseData
   k = t.case
@@ -107,10 +114,10 @@ module _ (laws : RowLaws) (t : TableData) (spans : Spans) (read : IsRead t spans
   Bound y = IsEnoughEverywhere r k spans y
 
   -- the greatest bound: 2 ^ w everywhere but where another number is given
-  abbrev most : ℕ → ℤ
+  abbrev pub most : ℕ → ℤ
   most s = if is_given k.model r.ends s then given k r.ends s else pos (2 ^ k.w)
 
-  top : List ℤ
+  pub top : List ℤ
   top = listed (count t) most
 
   top_at : (s : ℕ) → s < count t → number top s ≡ most s
@@ -187,18 +194,38 @@ module _ (laws : RowLaws) (t : TableData) (spans : Spans) (read : IsRead t spans
       enough = λ s state free. lowered_enough s state free;
     }
 
+  -- a vector with the given numbers is at most the greatest bound
+  pub under_most : (x : List ℤ) → IsGuess r k x → AtMost x top
+  under_most x h s = ⊎_elim
+      (λ (lt : s < count t). ⊎_elim
+      (λ (e : is_given k.model r.ends s ≡ true). omega (arith, linear, top_given s lt e, h.given s e))
+      (λ (e : is_given k.model r.ends s ≡ false). omega (arith, linear, top_free s lt e, (laws.numbers k x s h.numbers).1))
+      (true_or_false (is_given k.model r.ends s)))
+      (λ (past : count t ≤ s). omega (arith, linear, get_or_past x s (pos 0) (omega (arith, past, h.numbers.size)), (laws.numbers k top s top_numbers).0))
+      (in_or_past s (count t))
+
+  -- some bound is at least each number of such a vector
+  pub above_bound : (x : List ℤ) → IsGuess r k x → (y : List ℤ) × (Bound y × AtMost x y)
+  above_bound x h = (top, (top_bound, under_most x h))
+
+  -- a bound with m added, as far as bounds go, is one: it is at most m more, and at least what is at most m more and some such vector
+  pub moved_up : (y : List ℤ) (m : ℤ) → Bound y → pos 0 ≤ℤ m → IsMovedUp r k spans y m
+  moved_up y m bound least = record {
+    vector = lowered m top y;
+    bound = lowered_bound top y m top_bound bound least;
+    most = λ s. (at top y m top_bound bound least s).right;
+    least = λ x h s v under more. ⊎_elim
+        (λ (is : number (lowered m top y) s ≡ number top s). omega (arith, linear, is, under, under_most x h s))
+        (λ (is : number (lowered m top y) s ≡ number y s +ℤ m). omega (arith, linear, is, more))
+        (at top y m top_bound bound least s).one;
+  }
+
   module _ (guess x : List ℤ) (h : IsBelow r k (record { spans = spans; from = guess }) x) (sure : (s : ℕ) → s < count t → (number guess s ≢ number x s) ⊎ ((number x s ≡ pos 0) ⊎ (is_given k.model r.ends s ≡ true))) where
     past_none : (s : ℕ) → count t ≤ s → number x s ≡ pos 0
     past_none s past = get_or_past x s (pos 0) (omega (arith, past, h.numbers.size))
 
     under_top : (s : ℕ) → number x s ≤ℤ number top s
-    under_top s = ⊎_elim
-        (λ (lt : s < count t). ⊎_elim
-        (λ (e : is_given k.model r.ends s ≡ true). omega (arith, linear, top_given s lt e, h.given s e))
-        (λ (e : is_given k.model r.ends s ≡ false). omega (arith, linear, top_free s lt e, (laws.numbers k x s h.numbers).1))
-        (true_or_false (is_given k.model r.ends s)))
-        (λ (past : count t ≤ s). omega (arith, linear, past_none s past, (laws.numbers k top s top_numbers).0))
-        (in_or_past s (count t))
+    under_top = under_most x (record { numbers = h.numbers; given = h.given })
 
     -- the guess at s is at most m more than a bound, where x is at most m + 1 more
     under : (y : List ℤ) (m : ℤ) → Bound y → pos 0 ≤ℤ m → (s : ℕ) → number x s ≤ℤ (number y s +ℤ (m +ℤ pos 1)) → s < count t → number guess s ≤ℤ (number y s +ℤ m)

@@ -6,3 +6,4 @@ pub mod Leaving
 pub mod Tolling
 pub mod Pricing
 pub mod Lone
+pub mod Holding

@@ -60,6 +60,7 @@ impl Table<'_, '_> {
     ) -> Option<bool>
         ghost spans: { Spans }
         requires { CanClimb self.now (from_zero spans) lane.old flags.old }
+        ensures below { IsBelow self.now.rule self.now.case (from_zero spans) lane.new }
         ensures found { IfSome result (λ found. IsFound self.now spans lane.new found) }
         ensures slow { result ≡ None → IsSome patience }
         ensures guess { IsGuess self.now.rule self.now.case lane.new }

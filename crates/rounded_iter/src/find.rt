@@ -46,6 +46,9 @@ impl Table<'_, '_> {
         if let Some(found) = self.rise_from_guesses(lane, flags, noted) {
             return found;
         }
+        if let Some(found) = self.rise_held_from_zero(lane, flags, false) {
+            return found;
+        }
         if self.first_patience() < FIRST_PATIENCE {
             if let Some(found) = self.rise_from_zero(lane, flags, Some(FIRST_PATIENCE)) {
                 return found;

@@ -387,7 +387,7 @@ impl Table<'_, '_> {
         match self.rise_from_guess(lane, flags, noted, way, passes) {
             Raised::Least => Some(!self.is_past(lane)),
             Raised::Past => Some(false),
-            Raised::Certain => self.rise(lane, flags, None),
+            Raised::Certain => self.rise_to_end(lane, flags),
             Raised::High | Raised::Slow | Raised::Nothing => None,
         }
     }

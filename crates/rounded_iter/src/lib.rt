@@ -4,10 +4,12 @@
 mod below;
 mod find;
 mod guess;
+mod held;
 mod least;
 mod moved;
 mod priced;
 mod solve;
+mod steering;
 mod table;
 mod toll;
 mod worklist;

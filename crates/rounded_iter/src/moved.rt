@@ -2,7 +2,7 @@
 
 ghost use Rattle.std.specs.Prelude.{◌≡◌, length, IfSome};
 ghost use Rattle.lift_grid.specs.Rectangle.{Spans};
-ghost use Rattle.rounded_iter.specs.Watching.{IsFound, CanGuess, IsGuess, CanConfirm, CanTest};
+ghost use Rattle.rounded_iter.specs.Watching.{CanClimb, IsFound, CanGuess, IsGuess, CanConfirm, CanTest, from_zero};
 
 use crate::guess::{RAISES, Raised};
 use crate::table::Table;
@@ -28,6 +28,11 @@ const FAR_FAULTS: u32 = 5;
 
 /// As many raise one that isn't moved further where at most one state of so many is flagged.
 const FEW_FLAGS: usize = 2;
+
+/// How many passes raise a guess where states may be held instead, as in components of so many states.
+const HELD_RAISES: u32 = 1024;
+
+const SOON: u32 = 128;
 
 /// How many more passes there are for each state on which a fault has an effect.
 const SPREAD_RAISES: u32 = 8;
@@ -173,6 +178,23 @@ impl Table<'_, '_> {
         None
     }
 
+    /// Raises a vector at or below each bound to the least one for a while, where most states have settled, and else with
+    /// states that are held, and tells whether the initial state's number is within the limit. None: it took too long.
+    fn rise_nearby(&self, lane: &mut [i64], flags: &mut [u32]) -> Option<bool>
+        ghost spans: { Spans }
+        requires { CanClimb self.now (from_zero spans) lane.old flags.old }
+        ensures found { IfSome result (λ found. IsFound self.now spans lane.new found) }
+        ensures guess { IsGuess self.now.rule self.now.case lane.new }
+    {
+        if !has_few_flags(flags) {
+            return self.rise_held(lane, flags, true);
+        }
+        if let Some(found) = self.rise(lane, flags, Some(MORE_RAISES)) {
+            return Some(found);
+        }
+        self.rise_held(lane, flags, true)
+    }
+
     /// Raises guesses by elimination, and tells whether the initial state's number is within the limit: moved ones where
     /// one that isn't moved lies at or below each bound. None: no least bound came of them for certain.
     pub(crate) fn rise_from_guesses(
@@ -188,25 +210,35 @@ impl Table<'_, '_> {
     {
         rows_at_corners();
         corners_bound_weights();
-        match self.rise_from_guess(lane, flags, noted, Way::Elimination, TRY_RAISES) {
+        let raised = self.rise_from_guess(lane, flags, noted, Way::Elimination, TRY_RAISES);
+        match raised {
             Raised::Least => return Some(!self.is_past(lane)),
             Raised::Past => return Some(false),
             Raised::Certain => {
                 if self.is_past(lane) {
                     return Some(false);
                 }
-                if has_few_flags(flags) {
-                    if let Some(found) = self.rise(lane, flags, Some(MORE_RAISES)) {
-                        return Some(found);
-                    }
+                if let Some(found) = self.rise_nearby(lane, flags) {
+                    return Some(found);
                 }
                 if let Some(found) = self.find_from_moved(lane, flags, noted) {
                     return Some(found);
                 }
             }
-            Raised::Slow => {}
-            Raised::High | Raised::Nothing => return None,
+            Raised::Slow | Raised::High | Raised::Nothing => {
+                if let Some(found) = self.rise_held_from_zero(lane, flags, true) {
+                    return Some(found);
+                }
+                if !matches!(raised, Raised::Slow) {
+                    return None;
+                }
+            }
         }
-        self.find_from_guess(lane, flags, noted, Way::Elimination, RAISES)
+        let raises = if self.has_no_larger(SOON) {
+            HELD_RAISES
+        } else {
+            RAISES
+        };
+        self.find_from_guess(lane, flags, noted, Way::Elimination, raises)
     }
 }

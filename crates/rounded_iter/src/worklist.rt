@@ -28,7 +28,7 @@ fn set_flag(work: &mut [u32], position: u32, but: u32, frontier: u32)
 
 /// Takes away the flag of a position, and tells whether there was one.
 #[inline(always)]
-fn take_flag(work: &mut [u32], position: u32) -> bool
+pub(crate) fn take_flag(work: &mut [u32], position: u32) -> bool
     requires { position < length work.old }
     ensures clear { flag work.new position ≡ 0 }
     ensures other { (j : ℕ) → j ≢ position → flag work.new j ≡ flag work.old j }
@@ -136,7 +136,7 @@ impl Table<'_, '_> {
 
     /// The same, by a short path where the state has a single choice. Where the number is given, nothing rises.
     #[inline(always)]
-    fn raise_lone(&self, lane: &mut [i64], s: u32) -> bool
+    pub(crate) fn raise_lone(&self, lane: &mut [i64], s: u32) -> bool
         ghost run: { Run }
         requires { CanRaise self.now run lane.old s }
         ensures { IsRaisedState self.now run lane.old lane.new s result }
@@ -158,7 +158,7 @@ impl Table<'_, '_> {
     /// Flags the states that lead to the one at a position, as far as they stand before the frontier.
     /// The state itself needs no flag: what was raised is enough, with its self loops.
     #[inline(always)]
-    fn flag_before(&self, work: &mut [u32], s: u32, position: u32, frontier: u32)
+    pub(crate) fn flag_before(&self, work: &mut [u32], s: u32, position: u32, frontier: u32)
         requires { CanFlag self.now work.old s position }
         ensures { IsFlagged self.now work.old work.new s frontier }
     {

@@ -13,3 +13,6 @@ ghost-rise_from_zero g a = g.spans
 -- the vector may be guessed anew
 abbrev pub invariant-loop : goal.invariant-loop
 invariant-loop g l = IsGuess l.self.rule l.self.case l.lane
+
+abbrev pub ghost-rise_held_from_zero : goal.ghost-rise_held_from_zero
+ghost-rise_held_from_zero g a = g.spans

@@ -9,5 +9,8 @@ ghost-find_from_moved g a = g.spans
 abbrev pub ghost-find_from_guess : goal.ghost-find_from_guess
 ghost-find_from_guess g a = g.spans
 
-abbrev pub ghost-rise : goal.ghost-rise
-ghost-rise g a = g.spans
+abbrev pub ghost-rise_nearby : goal.ghost-rise_nearby
+ghost-rise_nearby g a = g.spans
+
+abbrev pub ghost-rise_held_from_zero : goal.ghost-rise_held_from_zero
+ghost-rise_held_from_zero g a = g.spans

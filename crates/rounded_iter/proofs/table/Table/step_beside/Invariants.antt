@@ -1,0 +1,4 @@
+use Rattle.rounded_iter.proofs.table.Table.step_beside.Given as goal
+
+abbrev pub ghost-turn_beside : goal.ghost-turn_beside
+ghost-turn_beside g a = g.run
