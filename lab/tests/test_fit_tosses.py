@@ -100,6 +100,15 @@ class Rows(unittest.TestCase):
         self.assertIn('state 0 init\n5 : p\n4 : 1-p\n', fitted)
         self.assertIn('state 4\n2 : p\n3 : 1-p\nstate 5\n1 : p\n2 : 1-p\n', fitted)
 
+    def test_two_modules_in_one_step(self) -> None:
+        # Both toss p at once: as one after the other, with a state in between for each of the first one's sides.
+        text = model('1 : p^2\n2 : p*(1-p)\n0 : (1-p)*p\n3 : (1-p)*(1-p)\n')
+        fitted = fit(text, Wants())
+        self.assertIn('state 0 init\n5 : p\n4 : 1-p\n', fitted.text.decode())
+        self.assertIn('state 5\n1 : p\n2 : 1/2-1/2*p\n0 : 1/2-1/2*p\n', fitted.text.decode())
+        self.same(text, fitted, [dict(p=Fraction(place, 5), q=Fraction(0)) for place in range(1, 5)])
+        self.assertEqual(reads(fitted.text), '')
+
     def test_a_chain_of_tosses(self) -> None:
         # All three copies: where the first toss fails, nothing else is tossed.
         fitted = fit(model('1 : p^3\n3 : 1-p^3\n'), Wants()).text.decode()
