@@ -72,6 +72,7 @@ class EdgeSearch:
 
     def run(self, width: Fraction, tell: Callable[[Fraction, Fraction], None]) -> Edge:
         """The edge to a width."""
+        tell(self.near, self.far)
         kept, broken, point = self._guess(width, tell)
         if kept == self.far:
             whole = self.session.ask(self.question)
