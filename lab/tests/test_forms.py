@@ -1,13 +1,16 @@
 """Formulas: how they are read, and what every command answers to them, against values worked out by hand."""
 
 import json
+import os
 import unittest
 from fractions import Fraction
 from pathlib import Path
+from unittest import mock
 
 from plift_lab.faults import Fault
 from plift_lab.forms import Asked, Form, read_formula
 from plift_lab.judging import RECHECK
+from plift_lab.program import find_program
 from plift_lab.session import Session
 
 from .helpers import EXAMPLES, RETRY, InFolder, run
@@ -59,6 +62,33 @@ class Reading(unittest.TestCase):
         ):
             with self.assertRaisesRegex(Fault, says, msg=text):
                 read_formula(text, 9)
+
+
+class Judges(InFolder):
+    def judged_by(self, audit: str) -> str:
+        """Who judges a text of `property`, where the program answers `audit` like this."""
+        script = '#!/bin/sh\nif [ "$1" = audit ]; then\n%s\nfi\nexec "%s" "$@"\n' % (audit, find_program().path)
+        stand_in = self.file('plift', script.encode())
+        Path(stand_in).chmod(0o755)
+        with mock.patch.dict(os.environ, {'PLIFT_PROGRAM': stand_in}):
+            words = ('--formula', 'P>=0.9 [F "delivered"]', '--region', REGION, '--json')
+            status, told, fault = run('verify', RETRY, *words)
+        return json.loads(told)[0]['behind']['judge'] if status == 0 else '%d: %s' % (status, fault)
+
+    def test_the_program_where_it_can(self) -> None:
+        sound = 'cat > /dev/null; echo sound holds 1 fails 0 unknown 0; exit 0'
+        self.assertEqual(self.judged_by(sound), '%s audit' % (self.folder / 'plift'))
+
+    def test_the_second_checker_else(self) -> None:
+        self.assertEqual(self.judged_by('cat > /dev/null; echo usage: words >&2; exit 2'), str(RECHECK))
+
+    def test_what_is_not_sound(self) -> None:
+        told = self.judged_by('cat > /dev/null; echo not sound: line 1: Syntax >&2; exit 1')
+        self.assertIn('2: plift-lab: plift refuses this: not sound: line 1: Syntax', told)
+        report = self.file('a.text', b'plift-property 1\nkind mdp\n')
+        status, out, fault = run('verdict', report)
+        self.assertEqual((status, out), (2, ''))
+        self.assertIn('a.text: not sound: line 3: Truncated', fault)
 
 
 class Answers(InFolder):
