@@ -113,6 +113,27 @@ run_noted() {
     exec "$program" "$@" 2>&9 8<&- 9>&-
 }
 
+# Tells at a terminal how far a report has come that goes to a file.
+watch_report() {
+    watcher=
+    [ -t 2 ] && [ -f /proc/self/fd/1 ] && [ -r "$top/tools/watch.py" ] || return 0
+    case "$name ${1-}" in
+    'plift verify' | 'plift bounded' | 'plift property' | 'plift cost' | 'plift lumped' | 'plift refine') ;;
+    *) return 0 ;;
+    esac
+    command -v python3 >/dev/null 2>&1 || return 0
+    python3 "$top/tools/watch.py" </dev/null 8<&- 9>&- &
+    watcher=$!
+}
+
+# Ends what tells it; where the program was stopped, it says what stands.
+end_watch() {
+    [ -n "$watcher" ] || return 0
+    how=TERM
+    [ -z "$ended_by" ] || how=USR1
+    { kill -s "$how" "$watcher"; wait "$watcher"; } 2>/dev/null
+}
+
 # Runs the program as a child, and adds hints to a refusal. Signals and statuses are those of the program. It
 # writes its note last of all, so the note is copied when the program has ended.
 run_with_hints() {
@@ -125,7 +146,9 @@ BLANK
     [ -w /proc/self/fd/8 ] || exec "$program" "$@" 8<&-
     exec 9>>/proc/self/fd/8
     read -r note <&8
+    watch_report "$@"
     run_child run_noted "$@"
+    end_watch
     exec 9>&-
     copy_note <&8
     end_by_signal

@@ -29,7 +29,7 @@ class Progress:
         self._begin = self._told = time.monotonic()
         self._width, self._share = 0, 0.0
         self._span: Optional[Tuple[float, float]] = None
-        self._past: List[Tuple[float, float]] = []
+        self._past = Past()
 
     @contextlib.contextmanager
     def part(self, low: float, high: float) -> Iterator[None]:
@@ -57,8 +57,7 @@ class Progress:
             return
         low, high = self._span
         self._share = max(self._share, low + (high - low) * inner)
-        self._past.append((spent, self._share))
-        left = time_left(self._past)
+        left = self._past.left(spent, self._share)
         told = '' if left is None else ', some %s left' % seconds_shown(left)
         self._put('%.1f %% of the region is settled after %s%s' % (100 * self._share, seconds_shown(spent), told))
 
@@ -84,6 +83,18 @@ class Progress:
         say('\r' + text.ljust(self._width) if self.is_terminal else text, '' if self.is_terminal else '\n')
 
 
+class Past:
+    """Times, and the shares that were done by then."""
+
+    def __init__(self) -> None:
+        self._noted: List[Tuple[float, float]] = []
+
+    def left(self, spent: float, share: float) -> Optional[float]:
+        """Notes what is done, and tells how many seconds are left, where that can be told."""
+        self._noted.append((spent, share))
+        return time_left(self._noted)
+
+
 def time_left(past: Sequence[Tuple[float, float]]) -> Optional[float]:
     """Seconds that are left, from times and the shares that were done by then. None where it can't be told: parts of a
     region take very different times, so what came on the whole and what came of late have to tell about the same."""
@@ -98,10 +109,11 @@ def time_left(past: Sequence[Tuple[float, float]]) -> Optional[float]:
 
 
 class Follower:
-    """How much of the region's volume the leaves of a growing report have."""
+    """How much of the region's volume the leaves of a growing report have, and how many there are."""
 
     def __init__(self) -> None:
         self._place, self._rest, self._is_head, self._share = 0, b'', True, 0.0
+        self.leaves = 0
         self._due = [1.0]
 
     def settled(self, path: Path) -> float:
@@ -124,6 +136,7 @@ class Follower:
                 self._due += [half, half]
             elif key in (b'accept', b'reject', b'unknow', b'holds', b'fails') and self._due:
                 self._share += self._due.pop()
+                self.leaves += 1
         return self._share
 
 

@@ -1,0 +1,94 @@
+"""What is told at a terminal while a report grows in a file: how far it is, once some seconds have passed, and what
+stands where the program is stopped. The report and the status are what they are without it."""
+
+import os
+import pty
+import re
+import shutil
+import signal
+import subprocess
+import sys
+import time
+import unittest
+from typing import Tuple
+
+from common import DoorCase, TOP, write_program
+
+TREE = TOP / "examples/retry-tree.report"
+# Writes three of six leaves, waits, and writes the others.
+GROWING = f"""#!/bin/sh
+head -n 42 '{TREE}'
+[ "$WAIT" != 60 ] || exec sleep 60
+sleep ${{WAIT-0}}
+tail -n +43 '{TREE}'
+exit 3
+"""
+WORDS = ["verify", "--goal", "lost", "--bound", "1/40", "--region", "x"]
+
+
+class Watch(DoorCase):
+    def setUp(self) -> None:
+        super().setUp()
+        shutil.copytree(TOP / "lab/plift_lab", self.top / "lab/plift_lab")
+        write_program(self.built(), GROWING)
+        hurried = (TOP / "tools/watch.py").read_text().replace("EARLIEST, EACH = 4.0, 1.0", "EARLIEST, EACH = 0.3, 0.1")
+        (self.top / "tools/watch.py").write_text(hurried)
+
+    def at_a_terminal(self, wait: float, stop: float = 0) -> Tuple[int, str, bytes]:
+        """What a call comes to whose standard error is a terminal: its status, what is told and the report."""
+        leader, follower = pty.openpty()
+        with open(self.room / "out", "wb") as out, open(TREE, "rb") as given:
+            process = subprocess.Popen(
+                [str(self.top / "plift"), *WORDS],
+                stdin=given,
+                stdout=out,
+                stderr=follower,
+                env={**self.environment, "WAIT": str(wait)},
+                start_new_session=True,
+            )
+        os.close(follower)
+        if stop:
+            time.sleep(stop)
+            os.killpg(process.pid, signal.SIGINT)
+        told = b""
+        try:
+            while piece := os.read(leader, 1000):
+                told += piece
+        except OSError:  # the last that had the terminal open has ended
+            pass
+        os.close(leader)
+        return process.wait(30), told.decode(), (self.room / "out").read_bytes()
+
+    def test_a_report_that_grows(self) -> None:
+        status, told, report = self.at_a_terminal(3)
+        self.assertEqual((status, report), (3, TREE.read_bytes()))
+        self.assertRegex(told, r"plift: \d s so far; 18\.8 % of the region is settled, in 3 rectangles")
+
+    def test_a_report_that_comes_at_once(self) -> None:
+        status, told, report = self.at_a_terminal(0)
+        self.assertEqual((status, report), (3, TREE.read_bytes()))
+        self.assertNotIn("so far", told)
+
+    def test_what_stands_where_it_is_stopped(self) -> None:
+        status, told, report = self.at_a_terminal(60, stop=3)
+        self.assertEqual(status, -signal.SIGINT)
+        self.assertIn("plift: stopped; 18.8 % of the region stands in the file, cut off", told)
+        self.assertTrue(TREE.read_bytes().startswith(report))
+
+    def test_what_is_appended_is_not_followed(self) -> None:
+        """What was there before is none of this report."""
+        shutil.copy(TREE, self.room / "out")
+        for mode, due in (("ab", ""), ("r+b", "100.0 % of the region")):
+            with open(self.room / "out", mode) as out:
+                script = [sys.executable, str(self.top / "tools/watch.py")]
+                process = subprocess.Popen(script, stdout=out, stderr=subprocess.PIPE)
+            time.sleep(1.5)
+            process.terminate()
+            told = (process.communicate()[1] or b"").decode()
+            self.assertTrue(re.search("plift: [0-9]+ s so far", told), told)
+            self.assertIn(due, told)
+            self.assertEqual("%" in told, bool(due))
+
+
+if __name__ == "__main__":
+    unittest.main()
