@@ -4,5 +4,6 @@ mod Cuts
 mod Literals
 pub mod Matching
 mod Names
+mod Planning
 mod Sound
 mod Whole

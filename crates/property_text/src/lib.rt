@@ -12,5 +12,5 @@ mod parts;
 pub use cut::{goals_of, restrict};
 pub use error::FormulaError;
 pub use formula::{Formula, FormulaIn, formula_in, read_formula};
-pub use laws::{formulas_are_one, until_is_reach};
+pub use laws::{formulas_are_one, memoryless_is_a_plan, until_is_reach};
 pub use op::Op;
