@@ -34,30 +34,36 @@ let rec next_line () =
     if not is_end then (if Buffer.length line > most_line then whole := Some Limit else next_line ())
   end
 
-(* Pieces: each word of a line with the byte behind it. *)
-let rec pieces text start () =
-  if start < String.length text then begin
-    let rec stop i = if i >= String.length text - 1 || String.unsafe_get text i = ' ' then i else stop (i + 1) in
-    let last = stop start in
-    let rec bytes i l = if i < start then l else bytes (i - 1) (String.unsafe_get text i :: l) in
-    Word (bytes last [], pieces text (last + 1))
-  end
-  else if !whole <> None then End
+(* Pieces: each word of a line with the byte behind it. A piece is asked for once. *)
+let rec bytes text first i l = if i < first then l else bytes text first (i - 1) (String.unsafe_get text i :: l)
+let rec word_of text last first =
+  let rec stop i = if i >= last || String.unsafe_get text i = ' ' then i else stop (i + 1) in
+  let i = stop first in
+  Word (bytes text first i [], if i < last then (fun () -> word_of text last (i + 1)) else pieces)
+and pieces () =
+  if !whole <> None then End
   else begin
     Buffer.clear line;
     next_line ();
     incr number;
     taken := !taken + Buffer.length line;
     if !taken > most_bytes then raise Too_long;
-    if Buffer.length line = 0 then End else pieces (Buffer.contents line) 0 ()
+    if Buffer.length line = 0 then End else let text = Buffer.contents line in word_of text (String.length text - 1) 0
   end
 
-(* Numbers, the last one first, as an array. *)
-let look numbers =
-  let n = List.length numbers in
-  let a = Array.make n Z.zero in
-  List.iteri (fun i z -> a.(n - 1 - i) <- z) numbers;
-  fun s -> let i = Z.to_int s in if i >= 0 && i < n then Array.unsafe_get a i else Z.zero
+(* The numbers of a line, in an array of its own. Each array is filled once, and is asked only when it is full; so to the
+   checker these three are functions. Of a large model less room is left to garbage. *)
+type numbers = { of_state : Z.t array; mutable count : int }
+let room percent = Gc.set { (Gc.get ()) with minor_heap_size = 1 lsl 18; space_overhead = percent }
+let is_large = ref false
+let fresh size =
+  let size = Z.to_int size in
+  if size > 8192 && not !is_large then begin is_large := true; room 25 end;
+  { of_state = Array.make size Z.zero; count = 0 }
+let push z n =
+  if n.count < Array.length n.of_state then begin Array.unsafe_set n.of_state n.count z; n.count <- n.count + 1 end;
+  n
+let see n s = let i = Z.to_int s in if i >= 0 && i < n.count then Array.unsafe_get n.of_state i else Z.zero
 
 (* A place in the tree of shapes for each list of polynomials. *)
 module Table = Hashtbl.Make (struct
@@ -77,14 +83,14 @@ let named fault = "not sound: " ^ (try Faults.name !number !whole fault with _ -
 let refuse status note = (try prerr_endline note with Sys_error _ -> ()); exit status
 
 let () =
-  Gc.set { (Gc.get ()) with minor_heap_size = 1 lsl 18; space_overhead = 100 };
+  room 100;
   (match Sys.argv with
    | [| _ |] -> set_binary_mode_in stdin true
    | [| _; ("-h" | "--help") |] ->
        print_string "coq-check [FILE]: says whether a text of plift is sound; reads standard input where FILE is left out\n"; exit 0
    | [| _; file |] when file = "" || file.[0] <> '-' -> (try channel := open_in_bin file with Sys_error e -> refuse 5 ("read fault: " ^ e))
    | _ -> refuse 2 "usage: coq-check [FILE]");
-  match check look hint (pieces "" 0) with
+  match check fresh push see hint pieces with
   | Sound (g, a, b, c) when !whole = None ->
       let a, b, c = Z.to_string a, Z.to_string b, Z.to_string c in
       (try

@@ -66,6 +66,17 @@ def checked(text: bytes, words: Tuple[str, ...] = ()) -> Any:
     return WORKED.asked([str(CHECKER), *words], text)
 
 
+def peak(text: bytes) -> int:
+    """The most memory that coq-check has at a time, in bytes, on a sound text; not less than a small Python needs."""
+    script = "import resource, subprocess, sys; subprocess.run(sys.argv[1:], check=True, stdout=subprocess.DEVNULL)"
+    script += "; print(resource.getrusage(resource.RUSAGE_CHILDREN).ru_maxrss)"
+    with tempfile.NamedTemporaryFile(suffix=".report") as kept:
+        kept.write(text)
+        kept.flush()
+        said = subprocess.run([sys.executable, "-c", script, str(CHECKER), kept.name], capture_output=True, check=True)
+    return 1024 * int(said.stdout)
+
+
 def made() -> Iterator[Tuple[str, bytes]]:
     """Texts that the quick program makes."""
     for row in filter(None, MADE.split("\n")):
@@ -182,6 +193,23 @@ class Ends(CoqCase):
         with open("/dev/full", "wb") as full:
             done = subprocess.run([str(CHECKER)], input=TEXTS["COIN"], stdout=full, stderr=subprocess.PIPE, check=False)
         self.assertEqual((done.returncode, done.stderr), (6, b"write fault\n"))
+
+    @unittest.skipUnless(QUICK.is_file(), "the quick program isn't built")
+    def test_memory_by_the_states_and_not_by_the_leaves(self) -> None:
+        ladder = subprocess.run([str(QUICK), "generate", "32767"], capture_output=True, check=True).stdout
+        words = ["verify", "--goal", "done", "--bound", "9/10", "--region", "99/100<=p<=1,98/100<=q<=1", "--depth", "2"]
+        self.assertLess(
+            peak(subprocess.run([str(QUICK), *words], input=ladder, capture_output=True, check=True).stdout),
+            26 * 10**6,
+        )
+        retry = (TOP / "examples" / "retry.drn").read_bytes()
+        words = ["verify", "--goal", "lost", "--bound", "1/40", "--region", "1/10<=p<=1/2,1/10<=q<=1/2", "--depth"]
+        few, many = (
+            subprocess.run([str(QUICK), *words, depth], input=retry, capture_output=True, check=True).stdout
+            for depth in ("2", "16")
+        )
+        self.assertGreater(len(many), 20 * len(few))
+        self.assertLess(peak(many), peak(few) + 2 * 10**6)
 
     def test_stack_does_not_grow_with_the_states(self) -> None:
         text = wide_row(40000)
