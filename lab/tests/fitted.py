@@ -91,3 +91,16 @@ def reached(
                 for target, part in row.items():
                     other[target] = other.get(target, Fraction(0)) + share * part
     return rows[model.start].get(-1, Fraction(0))
+
+
+def reached_within(model: Read, valuation: Mapping[str, Fraction], goal: str, steps: int) -> Fraction:
+    """How likely the goal of a chain is reached from the initial state in so many steps."""
+    known = [Fraction(goal in names) for names in model.labels]
+    for _ in range(steps):
+        known = [
+            one
+            if goal in names
+            else sum((worth(value, valuation) * known[target] for target, value in row), Fraction(0))
+            for one, names, (row, *_) in zip(known, model.labels, model.choices)
+        ]
+    return known[model.start]

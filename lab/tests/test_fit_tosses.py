@@ -20,7 +20,7 @@ from plift_lab.fit.tosses import composed, lengths, tossed
 from plift_lab.program import find_program
 from plift_lab.regions import Region
 
-from .fitted import reached, read
+from .fitted import reached, reached_within, read
 
 HEAD = '@type: DTMC\n@parameters\np q\n@model\n'
 TAIL = 'state 1 a\n0 : 1/3\n1 : 2/3\nstate 2 b\n2 : 1\nstate 3 done\n3 : 1\nstate 4\n1 : 1/2\n3 : 1/2\n'
@@ -156,8 +156,14 @@ class Rows(unittest.TestCase):
             '@type: DTMC\n@parameters\np\n@model\nstate 0 init\n%sstate 1 a\n%sstate 2\n2 : 1\nstate 3 b\n3 : 1\n'
             % (row, row)
         )
-        told = '\n'.join(fit(text.encode(), Wants()).told.lines())
+        fitted = fit(text.encode(), Wants())
+        told = '\n'.join(fitted.told.lines())
         self.assertIn('each step is now 2 steps: `bounded --steps S` is asked as --steps 2*S', told)
+        before, after, valuation = read(text), read(fitted.text.decode()), {'p': Fraction(1, 3)}
+        for steps in range(5):
+            worth = reached_within(before, valuation, 'b', steps)
+            self.assertEqual(reached_within(after, valuation, 'b', 2 * steps), worth)
+            self.assertEqual(worth > 0, steps > 0)
 
 
 class Polynomials(unittest.TestCase):

@@ -5,7 +5,8 @@ What is passed over or written otherwise is told; what may change the question i
 
 from __future__ import annotations
 
-from typing import Dict, List, Optional
+import re
+from typing import Dict, List, Optional, Tuple
 
 from .lines import Lines, unpacked
 from .refusal import Unfit, ValueFault, shown
@@ -15,6 +16,7 @@ from .told import Told
 from .wants import Wants
 from .wording import GROUP, MOST_DIGITS, PLAIN, Words, words_of
 
+STATE = re.compile(rb'state\s+([0-9]{1,20})(?![^\s"\[])(.*)', re.S)
 MOST_STATES, MOST_CHOICES, MOST_ENTRIES = 2**18, 2**19, 2**20
 """How much is read: more than the program takes, since some of it may be left out."""
 
@@ -38,6 +40,10 @@ class _Body:
         self._choices = self._entries = 0
         self._values: Dict[bytes, int] = {}
         """The pool's number of each text of a value."""
+        self._rests: Dict[bytes, Tuple[bytes, List[bytes]]] = {}
+        """Rewards and labels of each text behind a state's number."""
+        self._actions: Dict[bytes, Tuple[bytes, bytes]] = {}
+        """Name and rewards of each line of an action."""
 
     def read(self) -> None:
         """Reads up to the end of the text."""
@@ -88,28 +94,37 @@ class _Body:
             raise Unfit(number, fault.cause, fault.about) from None
 
     def _state(self, number: int, line: bytes) -> State:
-        words = words_of(number, line)
-        identity = words[1][1] if len(words) > 1 else b''
-        if words[0][1] != b'state' or not (identity.isdigit() and len(identity) <= MOST_DIGITS):
+        found = STATE.match(line)
+        if not found:
             raise Unfit(number, 'Syntax', '`%s` is no state: write state 0' % shown(line))
-        has_group = len(words) > 2 and words[2][0] == GROUP
-        labels = _labels(number, words[3:] if has_group else words[2:]) if len(words) > 2 else []
+        identity, rest = found.groups()
+        if rest not in self._rests:
+            words = words_of(number, rest)
+            has_group = bool(words) and words[0][0] == GROUP
+            group = words[0][1] if has_group else b''
+            self._rests[rest] = group, _labels(number, words[1:] if has_group else words)
         if len(self.source.states) == MOST_STATES:
             raise Unfit(number, 'LimitStates', 'there are far more states than plift takes')
-        state = State(number, int(identity), words[2][1] if has_group else b'', labels)
+        state = State(number, int(identity), *self._rests[rest])
         self.source.states.append(state)
         return state
 
-    @staticmethod
-    def _action(number: int, line: bytes) -> Choice:
-        words = words_of(number, line)
-        if words[0][1] != b'action':
-            raise Unfit(number, 'Syntax', '`%s` is no action: write action NAME' % shown(line))
-        is_named = len(words) > 1 and words[1][0] != GROUP
-        behind = words[2:] if is_named else words[1:]
-        if len(behind) > 1 or any(kind != GROUP for kind, _ in behind):
-            raise Unfit(number, 'Syntax', '`%s` has more words than a name and rewards' % shown(line))
-        return Choice(number, words[1][1] if is_named else b'', behind[0][1] if behind else b'')
+    def _action(self, number: int, line: bytes) -> Choice:
+        if line not in self._actions:
+            self._actions[line] = _action(number, line)
+        return Choice(number, *self._actions[line])
+
+
+def _action(number: int, line: bytes) -> Tuple[bytes, bytes]:
+    """An action's name and rewards."""
+    words = words_of(number, line)
+    if words[0][1] != b'action':
+        raise Unfit(number, 'Syntax', '`%s` is no action: write action NAME' % shown(line))
+    is_named = len(words) > 1 and words[1][0] != GROUP
+    behind = words[2:] if is_named else words[1:]
+    if len(behind) > 1 or any(kind != GROUP for kind, _ in behind):
+        raise Unfit(number, 'Syntax', '`%s` has more words than a name and rewards' % shown(line))
+    return words[1][1] if is_named else b'', behind[0][1] if behind else b''
 
 
 def _labels(number: int, words: Words) -> List[bytes]:
