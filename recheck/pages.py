@@ -9,7 +9,7 @@ to come out, and the lines that it shows of one of version 2, of properties and 
 has to have as many lines as pages say.
 
 The lines that docs/STORM.md speaks of are put into small models and have to be read, or refused with the note that
-it tells, and its commands have to mend what they are for.
+it tells, and its command has to mend what it is for.
 
 PATH is a built plift, or a built plift-view. Without it the proved program is taken where it is built, else the copy
 of `./plift --quick`. A page's word `--quick` is left out, so that both give what stands on the pages.
@@ -105,8 +105,7 @@ LINES = [
     ('state 0 init', 'state 0 !3 init', 'model: line 5: ExitRate'),
 ]
 
-# A text with a fault of each kind that docs/STORM.md has a word for, which its first command mends; and one for the
-# second. Each is refused before.
+# A text with a fault of each kind that docs/STORM.md has a word for, which its first command mends.
 EXPORT = '''// Exported
 @type: dtmc
 @parameters
@@ -132,7 +131,6 @@ state 2
 		3 : 0.33333333333333331
 state 3
 '''
-RATES = COIN.replace('DTMC', 'CTMC').replace('state 0', 'state 0 !3')
 
 
 class Command(NamedTuple):
@@ -273,14 +271,13 @@ def storm_lines(folder: Path) -> Iterator[Tried]:
         yield Tried(f'{STORM}: {new[:100]!r}', '' if said == (want or '') else f'it says: {said}')
 
 
-def storm_commands(folder: Path) -> Iterator[Tried]:
-    """The commands of docs/STORM.md that mend a text: whether what was refused is read then."""
-    for command, text in zip(page_commands(STORM), (EXPORT, RATES)):
-        is_refused = note(folder, text) != ''
-        said = bash(command.text, folder)
-        fitted = folder / 'fitted.drn'
-        left = note(folder, fitted.read_text() if text == EXPORT else said)
-        yield Tried(f'{STORM}: {command.text}', left if is_refused else 'the text that it mends is read as it is')
+def storm_command(folder: Path) -> Iterator[Tried]:
+    """The command of docs/STORM.md that mends a text: whether what was refused is read then."""
+    command = page_commands(STORM)[0].text
+    is_refused = note(folder, EXPORT) != ''
+    bash(command, folder)
+    left = note(folder, (folder / 'fitted.drn').read_text())
+    yield Tried(f'{STORM}: {command}', left if is_refused else 'the text that it mends is read as it is')
 
 
 def prepared(folder: Path, programs: dict[str, Path]) -> Path:
@@ -310,7 +307,7 @@ def tried(place: Path, programs: dict[str, Path]) -> Iterator[Tried]:
     yield from references()
     storm = prepared(place / 'STORM', programs)
     yield from storm_lines(storm)
-    yield from storm_commands(storm)
+    yield from storm_command(storm)
 
 
 def main() -> int:

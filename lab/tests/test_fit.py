@@ -131,8 +131,26 @@ class Texts(unittest.TestCase):
     def test_type(self) -> None:
         for form in ('@type: dtmc', '@type:"DTMC"', '@Type :  dtmc ', '\t@type: DTMC\r'):
             self.assertIn('\n@type: DTMC\n', fitted(COIN.replace('@type: DTMC', form))[0])
-        self.refused(COIN.replace('DTMC', 'CTMC'), 'model: line 1: UnsupportedType: CTMC: plift has no rates')
+        self.refused(COIN.replace('DTMC', 'POMDP'), 'model: line 1: UnsupportedType: POMDP: plift reads models of')
         self.refused(COIN.replace('DTMC', '\x1b[2J'), 'model: line 1: UnsupportedType: \\x1b[2J: ')
+
+    def test_continuous_time(self) -> None:
+        # Rates 3 and 1 by hand: the next jump is the first one in 3 of 4 cases. A state without rates is never left.
+        text = (
+            '@type: CTMC\n@reward_models\na\n@model\nstate 0 !4 [1] init\n1 : 3\n2 : 1\nstate 1 !0 done\nstate 2 !0\n'
+        )
+        text, told = fitted(text)
+        self.assertTrue(
+            text.endswith('@model\nstate 0 init\n1 : 3/4\n2 : 1/4\nstate 1 done\n1 : 1\nstate 2\n2 : 1\n'), text
+        )
+        for line in ('the type CTMC is written DTMC', 'rewards are left out', 'tested: from each of 3 states'):
+            self.assertIn(line, told)
+        self.assertEqual(asked(text, 'verify', '--goal', 'done', '--bound', '3/4', '--region', '')[:7], 'accept ')
+        shared = COIN.replace('DTMC', 'CTMC').replace('1-p', '2*(1-p)+p').replace('1 : p', '1 : 2*p')
+        self.refused(shared, 'model: line 6: ParametricDivisor: the rates of state 0 sum to 2+p')
+        shared = COIN.replace('DTMC', 'CTMC').replace('1-p', '3*(1-p)').replace('1 : p', '1 : 3*p')
+        self.assertIn('1 : p\n2 : 1-p\n', fitted(shared)[0])
+        self.assertIn('1 : p\n2 : 1-p\n', fitted(COIN.replace('DTMC', 'CTMC').replace('state 0', 'state 0 !7'))[0])
 
     def test_sections(self) -> None:
         text, told = fitted(COIN.replace('@model', '@choice_labelling\na b\nc\n@value_type: double\n@model'))

@@ -30,7 +30,7 @@ LOOKALIKES = {
 }
 
 OTHER_TYPES = {
-    "CTMC": "continuous time isn't taken; its embedded chain tells whether a state is ever reached (docs/STORM.md)",
+    "CTMC": "continuous time isn't taken; plift-lab fit writes its embedded chain, which tells what is ever reached",
     "MARKOV AUTOMATON": "continuous time isn't taken",
     "MA": "continuous time isn't taken",
     "POMDP": "partial observation isn't taken",

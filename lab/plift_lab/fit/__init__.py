@@ -12,7 +12,7 @@ from typing import Dict, List, NamedTuple, Optional, Sequence, Set
 from ..faults import Fault
 from ..plain import plain
 from ..regions import Region
-from . import costs, decimals, labels, states
+from . import costs, decimals, labels, rates, states
 from .labels import Formula
 from .polynomials import Box
 from .refusal import Unfit, shown
@@ -54,6 +54,7 @@ def fit(data: bytes, wants: Wants) -> Fitted:
     start = states.begin(source)
     goal, safe = _formula(source, wants.goal, '--goal'), _formula(source, wants.safe, '--safe')
     states.check_choices(source, wants, goal, told)
+    rates.embed(source, told)
     decimals.settle(source, wants.is_rounded, told)
     before = as_read(source) if len(source.states) <= MOST_STATES else None
     states.join_targets(source, told)

@@ -32,10 +32,6 @@ NEEDLESS = {
     'exported_by': 'it tells of the file and not of the model',
 }
 """Sections that say nothing of the question, and why."""
-TYPES = {
-    'CTMC': 'plift has no rates: write each rate over the sum of its state\'s, if it is asked whether the goal is ever '
-    'reached (docs/STORM.md)'
-}
 SECTION = re.compile(rb'@([A-Za-z_][A-Za-z0-9_]*)[ \t]*(:?)(.*)', re.S)
 ODD_NAME = re.compile(rb'[A-Za-z_][A-Za-z0-9_.\'#@~:!?\[\]]*')
 PLACE = re.compile(rb'(\$[A-Za-z0-9_]+)\s*:(.*)', re.S)
@@ -109,12 +105,20 @@ class Sections:
 
     def _type(self, number: int, rest: bytes) -> None:
         word = rest.strip(b'" \t').upper()
-        if word not in (b'DTMC', b'MDP'):
-            about = TYPES.get(word.decode('latin-1'), 'plift reads models of the types DTMC and MDP')
-            raise Unfit(number, 'UnsupportedType', '%s: %s' % (shown(rest), about))
-        if rest != word:
-            self.told.change('the type is written %s' % word.decode(), 'it is the same type', 'line %d' % number)
-        self.source.kind = word.decode()
+        if word not in (b'DTMC', b'MDP', b'CTMC'):
+            about = '%s: plift reads models of the types DTMC and MDP' % shown(rest)
+            raise Unfit(number, 'UnsupportedType', about)
+        self.source.is_timed = word == b'CTMC'
+        self.source.kind = 'DTMC' if self.source.is_timed else word.decode()
+        where = 'line %d' % number
+        if self.source.is_timed:
+            self.told.change(
+                'the type CTMC is written DTMC, and rates are divided by the sum of their state\'s',
+                'whether a state is ever reached doesn\'t depend on time; a question of time can\'t be asked',
+                where,
+            )
+        elif rest != word:
+            self.told.change('the type is written %s' % word.decode(), 'it is the same type', where)
 
     def _value_type(self, number: int, rest: bytes) -> None:
         self.told.change(

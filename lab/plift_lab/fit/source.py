@@ -147,6 +147,8 @@ class Source:
         self.names = names
         self.pool = Pool()
         self.kind = 'DTMC'
+        self.is_timed = False
+        """Whether values are rates."""
         self.rewards: List[bytes] = []
         self.reward_line = 0
         self.counts: Dict[str, Tuple[int, int]] = {}

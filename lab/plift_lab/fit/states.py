@@ -80,11 +80,12 @@ def check_choices(source: Source, wants: Wants, goal: Optional[Formula], told: T
         if any(choice.targets for choice in state.choices):
             continue
         is_goal = goal is not None and goal.holds(state.labels)
-        if not (is_goal or wants.is_looped):
+        if not (is_goal or wants.is_looped or source.is_timed):
             about = 'state %d has no transitions: --loops lets runs stay there, if that is meant' % state.number
             raise Unfit(state.line, 'NoChoice', about)
         state.loop(place, one)
-        why = 'a run that is there has reached the goal' if is_goal else 'you said by --loops that runs stay there'
+        why = 'you said by --loops that runs stay there' if wants.is_looped else 'runs stay there: no rate leads on'
+        why = 'a run that is there has reached the goal' if is_goal else why
         told.change('states without transitions get a loop', why, 'state %d' % state.number)
 
 

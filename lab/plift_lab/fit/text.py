@@ -10,7 +10,7 @@ from typing import Dict, List, Optional, Tuple
 
 from .lines import Lines, unpacked
 from .refusal import Unfit, ValueFault, shown
-from .sections import TYPES, Sections
+from .sections import Sections
 from .source import Choice, Names, Source, State
 from .told import Told
 from .wants import Wants
@@ -100,6 +100,8 @@ class _Body:
         identity, rest = found.groups()
         if rest not in self._rests:
             words = words_of(number, rest)
+            if self.source.is_timed and words and words[0][0] == PLAIN and words[0][1].startswith(b'!'):
+                words = words[1:]  # the exit rate, which is the sum of the rates
             has_group = bool(words) and words[0][0] == GROUP
             group = words[0][1] if has_group else b''
             self._rests[rest] = group, _labels(number, words[1:] if has_group else words)
@@ -131,7 +133,7 @@ def _labels(number: int, words: Words) -> List[bytes]:
     """The labels behind a state's number and rewards."""
     for kind, word in words:
         if kind == PLAIN and word.startswith(b'!'):
-            raise Unfit(number, 'ExitRate', 'a rate stands behind the state: %s' % TYPES['CTMC'])
+            raise Unfit(number, 'ExitRate', 'a rate stands behind the state, and the type isn\'t CTMC')
         if kind == PLAIN and word.startswith(b'{'):
             raise Unfit(number, 'Observation', 'models with partial observation aren\'t taken')
         if kind == GROUP:
