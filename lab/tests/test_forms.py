@@ -116,11 +116,11 @@ class Answers(InFolder):
             judge = ' check' if 'P<=' in formula and 'F<=' not in formula else str(RECHECK)
             self.assertIn('judged by', told)
             self.assertIn(judge, told.replace(', built without proofs', ''))
-            told = json.loads(run('leaves', report, '--json')[1])
-            self.assertEqual((told['verdict'], sum(Fraction(leaf['share']) for leaf in told['leaves'])), (verdict, 1))
+            data = json.loads(run('leaves', report, '--json')[1])
+            self.assertEqual((data['verdict'], sum(Fraction(leaf['share']) for leaf in data['leaves'])), (verdict, 1))
             page = run('view', report)[1]
             self.assertIn(
-                '<title>%s</title>' % told['question'].replace('<', '&lt;').replace('"', '&quot;').replace('>', '&gt;'),
+                '<title>%s</title>' % data['question'].replace('<', '&lt;').replace('"', '&quot;').replace('>', '&gt;'),
                 page,
             )
 
@@ -137,9 +137,9 @@ class Answers(InFolder):
             status, told, fault = run(*words)
             self.assertEqual((status, fault), (0, ''), formula)
             found = json.loads(told)
-            for side, due in (('sup', most), ('inf', least)):
-                low, high = (Fraction(found[side][end]) for end in ('least', 'most'))
-                self.assertTrue(low <= due <= high, (formula, side, float(low), float(high)))
+            for name, due in (('sup', most), ('inf', least)):
+                low, high = (Fraction(found[name][end]) for end in ('least', 'most'))
+                self.assertTrue(low <= due <= high, (formula, name, float(low), float(high)))
                 self.assertLessEqual(high - low, Fraction(1, 100000))
 
     def test_costs(self) -> None:

@@ -73,10 +73,13 @@ def _lines(report: Report, found: List[Finding], session: Session) -> List[str]:
     lines = ['  %s, judged by %s' % (report.soundness, report.judge)]
     for one in found:
         lines.append('unknown%s' % _where(one))
-        lines.append(
-            '  between %s and %s at %d bits; the bound is %s'
-            % (below(one.coarse.least, 9), above(one.coarse.most, 9), report.precision, report.bound)
-        )
+        if report.command == 'cost':  # none is shown from below
+            told = (
+                'at most %s' % above(one.coarse.most, 9) if one.coarse.most <= report.form.unit else 'more than the cap'
+            )
+        else:
+            told = 'between %s and %s' % (below(one.coarse.least, 9), above(one.coarse.most, 9))
+        lines.append('  %s at %d bits; the bound is %s' % (told, report.precision, report.bound))
         if one.sharp != one.coarse:
             sharp = below(one.sharp.least, 13), above(one.sharp.most, 13)
             lines.append('  between %s and %s at the most bits' % sharp)
