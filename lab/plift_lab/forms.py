@@ -21,6 +21,18 @@ PATH = re.compile(r'(?:%s\s*U|F)\s*(?:<=\s*([0-9]+))?\s*%s' % (LABEL, LABEL))
 FORMULA = re.compile(
     r'(?:P|R\s*\{\s*"([^"]+)"\s*\})\s*(max|min)?\s*(<=|>=|<|>|=\s*\?)\s*([^\[\]]*?)\s*\[\s*(.*?)\s*\]', re.S
 )
+LIKELY = (
+    (
+        r'\[\s*G',
+        'what is to hold always is asked by what is never to be reached: in place of P>=0.9 [G "up"] write '
+        'P<=0.1 [F "down"], with the label down on all states that aren\'t up',
+    ),
+    (r'\[\s*X', 'the next step is asked for as P<=b [F<=1 "goal"]'),
+    (r'^\s*R\s*(min|max)?\s*(<|>|=|\[)', 'name the reward model, as in R{"sends"}<=7/5 [F "done"]'),
+    (r'[&|!]', 'a label stands by itself: give the states that are meant a label of their own in the model\'s text'),
+    (r'\b(C|S)\s*(<=|\])', 'costs are counted up to a goal, as in R{"sends"}<=7/5 [F "done"]'),
+)
+"""Signs of what is known from other tools, and what comes near."""
 SHAPES = 'write P<=1/40 [F "lost"], P>=0.9 ["up" U "done"], P<=0.1 [F<=10 "lost"] or R{"sends"}<=7/5 [F "done"]'
 NUMBERS = 'for a number =? in the place of the bound, as Pmax=? [F "lost"], Pmin=? [F "done"]'
 
@@ -105,7 +117,8 @@ def read_formula(text: str, cap: Optional[int] = None) -> Asked:
     whole = FORMULA.fullmatch(text.strip())
     path = PATH.fullmatch(whole.group(5)) if whole else None
     if not whole or not path:
-        raise Fault('the formula %r isn\'t read: %s; %s' % (text, SHAPES, NUMBERS))
+        known = next((told for sign, told in LIKELY if re.search(sign, text)), '%s; %s' % (SHAPES, NUMBERS))
+        raise Fault('the formula %r isn\'t read: %s' % (text, known))
     reward, which, op, number, _ = whole.groups()
     safe, goal, steps = path.group(1) or path.group(2), path.group(4) or path.group(5), path.group(3)
     is_number = op.startswith('=')

@@ -81,7 +81,7 @@ def _cost_lines(found: Bounds, session: Session) -> List[str]:
         '  %s%s' % (exact(upper.value), _file(upper, session)),
     ]
     point, there = found.sup.witness
-    if there.value:
+    if there.value and point.told:
         lines.append('  at %s at most %s' % (point.told, above(there.value, 9)))
     return lines + ['plift shows no cost from below: how much is needed at least isn\'t told']
 
