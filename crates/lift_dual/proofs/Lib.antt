@@ -15,3 +15,4 @@ mod Ranking
 mod Doubling
 mod Greatest
 mod Chains
+mod Renumbering

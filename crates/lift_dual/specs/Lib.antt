@@ -11,3 +11,4 @@ pub mod Ranking
 pub mod Rates
 pub mod Greatest
 pub mod Chains
+pub mod AnyRanksOfAll

@@ -4,6 +4,7 @@ ghost use Rattle.lift_dual.specs.Laws.{UntilIsReachedByAll, UntilIsBoundedForOne
 ghost use Rattle.lift_dual.specs.Laws.{UntilIsBoundedForAll, UntilIsReachedByOne};
 ghost use Rattle.lift_dual.specs.Laws.{SidesAreApart, EachHasASide};
 ghost use Rattle.lift_dual.specs.Avoiding.{StagesAreLeast, RestIsAvoiding, RestIsGreatest};
+ghost use Rattle.lift_dual.specs.AnyRanksOfAll.{RanksOfAllFit, NoneOfAllWithAnyRanks};
 ghost use Rattle.lift_dual.specs.StagesOfAll.{StartOfAll, NextOfAll, EndOfAll};
 ghost use Rattle.lift_dual.specs.Bounds.{BoundsAreAvoiding, LeastBoundIsAvoiding};
 ghost use Rattle.lift_dual.specs.Bounds.{UpperOneIsBound, BoundIsMet, LeastBoundIsUpperOne};
@@ -58,6 +59,14 @@ pub fn rest_is_greatest()
     rows_at_corners();
     corners_bound_weights();
 }
+
+/// Holds that a lower vector for every scheduler with any ranks and any k also has ranks of at most the number of
+/// states, for who reasons about open rectangles: where none with bounded ranks is above a limit, none at all is. It
+/// does nothing.
+pub fn ranks_of_all_fit()
+    ensures fit { RanksOfAllFit }
+    ensures none { NoneOfAllWithAnyRanks }
+{}
 
 /// Ranking over every choice, stage by stage: where the stages begin and end, and what the next one has
 /// to find. It does nothing.

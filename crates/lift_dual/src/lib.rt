@@ -13,6 +13,7 @@ pub use all::{greatest_all, greatest_all_above, least_avoiding_within};
 pub use chain::pick_first;
 pub use laws::{
     all_and_one, bounds_are_vectors, certificates_join, chains_have_one_scheduler,
-    plans_are_supported, rest_is_greatest, sides_are_apart, stages_of_all, until_is_bounded,
+    plans_are_supported, ranks_of_all_fit, rest_is_greatest, sides_are_apart, stages_of_all,
+    until_is_bounded,
 };
 pub use one::{least_one, least_one_within};
