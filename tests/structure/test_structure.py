@@ -105,6 +105,14 @@ def of_refine(chance: random.Random) -> str:
     return other(words, slow.report(process, it, least)[0], slow.report(process, deeper, least)[0])
 
 
+def of_lumped(chance: random.Random) -> str:
+    """The report of the quotient, whose numbers are over the chain's own denominator."""
+    process, it = question(chance, is_chain=True)
+    report, tree = slow.report(slow.quotient(process), it, common=process.common())
+    faults = [other(it.words("lumped"), model_text(process), report)]
+    return "".join(faults) + ("" if checked(report) == slow.sound(tree) else checked(report))
+
+
 def of_bounded(chance: random.Random) -> str:
     """The text for a number of steps."""
     process, it = question(chance)
@@ -195,6 +203,10 @@ class Commands(unittest.TestCase):
     def test_ladders(self) -> None:
         """`generate` and `selftest`."""
         self.holds(of_ladders)
+
+    def test_lumped(self) -> None:
+        """`lumped`."""
+        self.holds(of_lumped)
 
 
 if __name__ == "__main__":
