@@ -1,5 +1,6 @@
 #!/usr/bin/env python3
-"""The benchmark of "Parameter Synthesis for Markov Models: Faster Than Ever" (ATVA 2016), as far as it fits plift's limits.
+"""The benchmark of "Parameter Synthesis for Markov Models: Faster Than Ever" (ATVA 2016), as far as it fits plift's
+limits.
 
     bench/atva.py                        # makes the models, asks for 95 % of each, prints the table
     bench/atva.py --only brp,nand        # some families
@@ -9,8 +10,8 @@
 
 The models are written anew from the descriptions of the protocols (bounded retransmission, crowds, multiplexing of NAND
 gates, zero configuration, randomized consensus), state by state. Each parameter's interval runs from 1/100000 to
-99999/100000, and a region is refined until 95 % of it is decided, as there. What stands behind a line is one report, which
-`plift check` has judged; --keep FOLDER keeps all. PLIFT_PROGRAM names the program, as for plift-lab.
+99999/100000, and a region is refined until 95 % of it is decided, as there. What stands behind a line is one report,
+which `plift check` has judged; --keep FOLDER keeps all. PLIFT_PROGRAM names the program, as for plift-lab.
 """
 
 from __future__ import annotations
@@ -71,10 +72,10 @@ def text(
     return ('\n'.join(['@type: ' + kind, '@parameters', ' '.join(parameters), '@model'] + lines) + '\n').encode()
 
 
-# Bounded retransmission: a file of some frames, each sent again at most so many times, over a channel for frames (pK) and
-# one for acknowledgements (pL). s is the sender (0 idle, 1 next frame, 2 waits, 3 again, 4 acknowledged, 5 gives up, 6 waits
-# for the other side), r the receiver (0 new file, 1 first frame, 2 frame, 3 reported, 4 waits, 5 ends), k and l the
-# channels (0 empty, 1 carries, 2 has lost). A bit alternates on both sides.
+# Bounded retransmission: a file of some frames, each sent again at most so many times, over a channel for frames (pK)
+# and one for acknowledgements (pL). s is the sender (0 idle, 1 next frame, 2 waits, 3 again, 4 acknowledged, 5 gives
+# up, 6 waits for the other side), r the receiver (0 new file, 1 first frame, 2 frame, 3 reported, 4 waits, 5 ends), k
+# and l the channels (0 empty, 1 carries, 2 has lost). A bit alternates on both sides.
 Brp = namedtuple('Brp', 's told i again bit first last sent_bit r said got_first got_last got_bit due_bit started k l')
 
 
@@ -117,8 +118,13 @@ def brp(frames: int, most: int) -> bytes:
         if v.s == 4 and v.i == frames:
             step(s=0, told=3)
         if v.s in (5, 6) and v.r in (0, 4, 5):
-            mine = {'s': 6} if v.s == 5 else {'s': 0, 'bit': 0}
-            other = {0: {}, 4: {'r': 5} if v.last else {'r': 5, 'said': 4}, 5: {'r': 0, 'said': 0}}[v.r]
+            mine: Dict[str, int] = {'s': 6} if v.s == 5 else {'s': 0, 'bit': 0}
+            others: Dict[int, Dict[str, int]] = {
+                0: {},
+                4: {'r': 5} if v.last else {'r': 5, 'said': 4},
+                5: {'r': 0, 'said': 0},
+            }
+            other = others[v.r]
             step(**mine, **other)
         if v.k == 1 and v.r in (0, 4):
             step(r=1 if v.r == 0 else 2, got_first=v.first, got_last=v.last, got_bit=v.sent_bit, k=0)
@@ -171,9 +177,9 @@ Nand = namedtuple('Nand', 'phase stage done good first second one other')
 
 
 def nand(wires: int, stages: int) -> bytes:
-    """Bundles of wires through stages of NAND gates, each gate wrong with perr, each input 1 with prob1. Behind a stage one
-    bundle of its results comes in order, and the other is shuffled. Goal `reliable`: fewer than a tenth of the last wires
-    are 1."""
+    """Bundles of wires through stages of NAND gates, each gate wrong with perr, each input 1 with prob1. Behind a stage
+    one bundle of its results comes in order, and the other is shuffled. Goal `reliable`: fewer than a tenth of the last
+    wires are 1."""
     last = 2 * stages + 1
 
     def moves(v: Nand) -> List[Row]:
@@ -214,11 +220,12 @@ def nand(wires: int, stages: int) -> bytes:
 
 
 def zeroconf(probes: int) -> bytes:
-    """A host takes an address, which is in use with q. It sends so many probes, each unanswered with p, and takes another
-    address where one is answered. Goal `collision`: none was answered though the address is in use."""
+    """A host takes an address, which is in use with q. It sends so many probes, each unanswered with p, and takes
+    another address where one is answered. Goal `collision`: none was answered though the address is in use."""
 
     def moves(state: int) -> List[Row]:
-        """The row of a state, if any: an address is taken in 0, and a probe is sent in each from 1 to the number of probes."""
+        """The row of a state, if any: an address is taken in 0, and a probe is sent in each from 1 to the number of
+        probes."""
         if state == 0:
             return [[('q', 1), ('1-q', -1)]]
         if 0 < state <= probes:
@@ -229,8 +236,8 @@ def zeroconf(probes: int) -> bytes:
 
 
 def consensus(processes: int, bound: int) -> bytes:
-    """A shared coin: each process tosses one of its own (p1, p2, ..) and moves a counter up or down until it is far enough
-    out. The scheduler says whose turn it is. Goal `agree`: all end with 1."""
+    """A shared coin: each process tosses one of its own (p1, p2, ..) and moves a counter up or down until it is far
+    enough out. The scheduler says whose turn it is. Goal `agree`: all end with 1."""
     most = 2 * (bound + 1) * processes
 
     def moves(state: Tuple[int, Tuple[Tuple[str, int], ...]]) -> List[Row]:
@@ -266,7 +273,13 @@ def consensus(processes: int, bound: int) -> bytes:
     )
 
 
-FAMILIES: Dict[str, Callable[..., bytes]] = {one.__name__: one for one in (brp, crowds, nand, zeroconf, consensus)}
+FAMILIES: Dict[str, Callable[..., bytes]] = {
+    'brp': brp,
+    'crowds': crowds,
+    'nand': nand,
+    'zeroconf': zeroconf,
+    'consensus': consensus,
+}
 
 
 class Job(NamedTuple):
@@ -320,7 +333,8 @@ def end_of_time(number: int, frame: object) -> None:
 
 
 def ask(job: Job, share: Fraction, keep: str, limit: int) -> Dict[str, str]:
-    """The columns of a job: regions are the leaves of its last report, seconds those of the processor for all depths."""
+    """The columns of a job: regions are the leaves of its last report, seconds those of the processor for all
+    depths."""
     line = {'model': job.name, 'bound': job.bound}
     try:
         model = Model(FAMILIES[job.family](*job.arguments))

@@ -52,7 +52,7 @@ def kind(words: str) -> Callable[[Make], Make]:
 
     def enter(make: Make) -> Make:
         """Enters it by its name, and gives it back."""
-        KINDS[make.__name__.replace("_", "-")] = Kind(make, words.split(), make.__doc__.strip())
+        KINDS[make.__name__.replace("_", "-")] = Kind(make, words.split(), (make.__doc__ or "").strip())
         return make
 
     return enter

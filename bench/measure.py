@@ -11,6 +11,7 @@ import subprocess
 import sys
 import tempfile
 from dataclasses import dataclass
+from pathlib import Path
 from typing import Optional
 
 TOP = os.path.dirname(os.path.dirname(os.path.abspath(__file__)))
@@ -68,10 +69,8 @@ def once(words: list[str], source: str, target: str, limit: int) -> Run:
         return Run(STOPPED, limit, 0.0, "stopped")
     megabytes = 0.0
     if TIME:
-        with open(figures) as file:
-            megabytes = int(file.read().split()[-1]) / 1024
-    with open(notes, "rb") as file:
-        note = file.read().decode("ascii", "replace").strip()
+        megabytes = int(Path(figures).read_text().split()[-1]) / 1024
+    note = Path(notes).read_bytes().decode("ascii", "replace").strip()
     return Run(child.returncode, seconds, megabytes, note)
 
 

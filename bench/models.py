@@ -4,7 +4,7 @@
     models.py relay HOPS TRIES      a message over hops; each hop is tried again over the radio (p) or the wire (q)
     models.py robot SIDE            a robot on a square, whose steps slip with p; a choice of four ways in each place
     models.py walk LENGTH           a walk to and fro, forth with p; the goal is at one end
-    models.py dice COUNT            dice that are thrown with a coin of p, one after another; the goal is that all show one
+    models.py dice COUNT            dice that are thrown with a coin of p, one by one; the goal is that all show one
     models.py mixed STATES          rows over four parameters, to three states above, one below and a sink
     models.py deep LAYERS WIDTH     layers of states with four choices each, on to the next layer or some layers back
     models.py component STATES      a chain in which nearly all states reach each other, from anywhere to anywhere
@@ -121,7 +121,7 @@ def robot(side: int) -> str:
 
 def walk(length: int) -> str:
     """From the middle; state 0 is a loss and the last state the goal."""
-    states = [([], [[(0, "1")]])]
+    states: list[State] = [([], [[(0, "1")]])]
     for place in range(1, length):
         labels = ["init"] if place == length // 2 else []
         states.append((labels, [[(place + 1, "p"), (place - 1, "1-p")]]))
@@ -163,7 +163,8 @@ def mixed(count: int) -> str:
 
 
 def deep(layers: int, width: int) -> str:
-    """Each choice leads to a state of the next layer with p or q, and else up to five layers back, a few to the loss."""
+    """Each choice leads to a state of the next layer with p or q, and else up to five layers back, a few to the
+    loss."""
     draw = random.Random(1).randrange
     goal, lost = layers * width, layers * width + 1
     states = []
@@ -183,7 +184,8 @@ def deep(layers: int, width: int) -> str:
 
 
 def component(count: int) -> str:
-    """Each state leads to three others by chance, and with 3/100 of 1-p to an end, which is the goal for a third of them."""
+    """Each state leads to three others by chance, and with 3/100 of 1-p to an end, which is the goal for a third of
+    them."""
     draw = random.Random(1).randrange
     goal, lost = count, count + 1
     states = []
@@ -305,7 +307,7 @@ RARE: tuple[Callable[..., str], ...] = (memory, disks, watchdog, ring, bus, spar
 
 PLAIN: tuple[Callable[..., str], ...] = (relay, robot, walk, dice, mixed, deep, component)
 
-FAMILIES = {family.__name__: family for family in (*PLAIN, *RARE)}
+FAMILIES: dict[str, Callable[..., str]] = {family.__name__: family for family in (*PLAIN, *RARE)}
 
 if __name__ == "__main__":
     if len(sys.argv) < 3 or sys.argv[1] not in FAMILIES:

@@ -3,10 +3,10 @@
 
     phases.py --bin PATH [--runs N] [--in NAME]... -- WORDS... < FILE
 
-WORDS are those of the program, and FILE is its standard input. A function is named as `nm PATH` shows it,
-or by the front of that, such as `lift_model::links::Links::build`; without --in those of PARTS are taken. For each
-it prints how often it was called in a run, and the least time of N runs (5, if not said) in milliseconds, all calls of a run together. A function that
-the compiler put into its caller isn't there by itself, which is told.
+WORDS are those of the program, and FILE is its standard input. A function is named as `nm PATH` shows it, or by the
+front of that, such as `lift_model::links::Links::build`; without --in those of PARTS are taken. For each it prints how
+often it was called in a run, and the least time of N runs (5, if not said) in milliseconds, all calls of a run
+together. A function that the compiler put into its caller isn't there by itself, which is told.
 
 Needs Linux, the rights of root, perf, nm and readelf: it sets a probe at the function's entry and one at its end, which
 cost some microseconds a call.
@@ -65,7 +65,8 @@ def write_probes(text: str) -> None:
 
 def times(data: str) -> dict[str, tuple[int, float]]:
     """Calls and milliseconds of each function in one run."""
-    started, told = {}, {}
+    started: dict[str, float] = {}
+    told: dict[str, tuple[int, float]] = {}
     script = output("perf", "script", "-i", data, "-F", "time,event", "--ns")
     for time, kind, number in re.findall(r"([\d.]+):\s+plift:(in|out)(\d+)", script):
         if kind == "in":
@@ -104,9 +105,9 @@ def main() -> None:
             data = f"{folder}/data"
             command = ["perf", "record", "-q", "-B", "-N", "-o", data, "-e", "plift:*", program, *args.words]
             subprocess.run(command, input=text, stdout=subprocess.DEVNULL, stderr=subprocess.DEVNULL)
-            for number, (calls, sum_) in times(data).items():
-                if number not in least or sum_ < least[number][1]:
-                    least[number] = (calls, sum_)
+            for each, (calls, sum_) in times(data).items():
+                if each not in least or sum_ < least[each][1]:
+                    least[each] = (calls, sum_)
     finally:
         write_probes("")
         shutil.rmtree(folder)

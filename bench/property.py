@@ -1,23 +1,23 @@
 #!/usr/bin/env python3
-"""Measures `property` beside `verify` on decision processes, with the same label, bound, region, depth and precision, and
-prints a table.
+"""Measures `property` beside `verify` on decision processes, with the same label, bound, region, depth and precision,
+and prints a table.
 
     property.py [--bin PATH] [--limit SECONDS] [--only WORD]
 
-`P<=` asks about the scheduler that reaches the most, as `verify` does, and has to have its leaves; `P>=` about the one that
-reaches the least. Seconds of the processor, the least of three runs.
+`P<=` asks about the scheduler that reaches the most, as `verify` does, and has to have its leaves; `P>=` about the one
+that reaches the least. Seconds of the processor, the least of three runs.
 """
 
 import argparse
 import os
 import sys
-from typing import List
+from typing import Callable, Dict, List, Union
 
 import atva
 import measure
 import models
 
-FAMILIES = {**models.FAMILIES, "consensus": atva.consensus}
+FAMILIES: Dict[str, Callable[..., Union[str, bytes]]] = {**models.FAMILIES, "consensus": atva.consensus}
 
 
 class Job(models.Job):

@@ -160,7 +160,7 @@ def tables(program: str, limit: int, only: Optional[str]) -> str:
     loads.append(os.getloadavg()[0])
     say(
         "Measured on %s, %s, %d processors. Processes at work besides: about %.1f at the beginning and %.1f at the end."
-        % (datetime.date.today().isoformat(), processor(), os.cpu_count(), loads[0], max(loads[1] - 1, 0))
+        % (datetime.date.today().isoformat(), processor(), os.cpu_count() or 1, loads[0], max(loads[1] - 1, 0))
     )
     return "\n".join(lines) + "\n"
 

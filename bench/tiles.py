@@ -3,10 +3,10 @@
 
     bench/tiles.py NAME GOAL BOUND REGION PRECISION DEPTHS < MODEL.drn
 
-DEPTHS are that of the first report and those of each round, as 6,11 or 2,4,6,8,11. It prints a row of the table: seconds
-of the processor of the whole, of the first report, of the tiles and of all around them (checks, `split` and `join`), and
-how many times faster K processors would have the joined report, if each takes the next tile as soon as it is free.
-PLIFT_PROGRAM names the program, as for plift-tiles.
+DEPTHS are that of the first report and those of each round, as 6,11 or 2,4,6,8,11. It prints a row of the table:
+seconds of the processor of the whole, of the first report, of the tiles and of all around them (checks, `split` and
+`join`), and how many times faster K processors would have the joined report, if each takes the next tile as soon as it
+is free. PLIFT_PROGRAM names the program, as for plift-tiles.
 """
 
 import heapq
@@ -40,7 +40,7 @@ def seconds(words: List[str], given: Path, out: Path) -> float:
         _, status, used = os.wait4(process.pid, 0)
     if status:
         sys.exit(f"tiles.py: {' '.join(words)}: status {status}")
-    return used.ru_utime + used.ru_stime
+    return float(used.ru_utime + used.ru_stime)
 
 
 def spread(times: List[float], count: int) -> float:

@@ -3,7 +3,8 @@
 The chain in the report's head has to be the quotient of the chain in MODEL by its coarsest right partition. That is
 computed anew, by plain rounds: two states stay in a block while both are goal states or both not, and their transitions
 into each block sum to the same polynomial. Goal states are those with the LABEL; without one each label of the model is
-tried, as a report doesn't tell it. Whether the report is sound, recheck.py tells. A chain of n states may take n rounds.
+tried, as a report doesn't tell it. Whether the report is sound, recheck.py tells. A chain of n states may take n
+rounds.
 
 Statuses: 0 it is the quotient, 1 it isn't, 2 the words, 3 the model is no chain that plift reads, 5 read fault, 6 write
 fault, 8 out of memory, 130 ctrl-C.
@@ -38,7 +39,10 @@ def kept(poly: Poly[Number]) -> Poly[Number]:
 
 
 def plus(a: Poly[Number], b: Poly[Number]) -> Poly[Number]:
-    return kept({m: a.get(m, 0) + b.get(m, 0) for m in a.keys() | b.keys()})
+    total = dict(a)
+    for m, c in b.items():
+        total[m] = total[m] + c if m in total else c
+    return kept(total)
 
 
 def times(a: Poly[Fraction], b: Poly[Fraction]) -> Poly[Fraction]:  # no parameter is in both

@@ -1,12 +1,12 @@
 #!/usr/bin/env python3
 """Tests of what the pages say:  python3 recheck/pages.py [--program PATH] [--view PATH]
 
-Every command of README.md and of the pages in PAGES runs in a folder with a copy of the examples, page by page, and
-has to print what stands below it: a block marked `text` right behind it, in which a line `..` stands for any lines;
-nothing where there is no such block. A command marked `sh not-run` isn't run. A picture that a page makes has to be
-the one in docs/pictures, and each of these has to be made by a page; the reports that docs/FORMATS.md tells of have
-to come out, and the lines that it shows of one of version 2, of properties and of costs; each page that is named has to be there, and recheck.py
-has to have as many lines as pages say.
+Every command of README.md and of the pages in PAGES runs in a folder with a copy of the examples, page by page, and has
+to print what stands below it: a block marked `text` right behind it, in which a line `..` stands for any lines; nothing
+where there is no such block. A command marked `sh not-run` isn't run. A picture that a page makes has to be the one in
+docs/pictures, and each of these has to be made by a page; the reports that docs/FORMATS.md tells of have to come out,
+and the lines that it shows of one of version 2, of properties and of costs; each page that is named has to be there,
+and recheck.py has to have as many lines as pages say.
 
 The lines that docs/STORM.md speaks of are put into small models and have to be read, or refused with the note that
 it tells, and its command has to mend what it is for.
@@ -29,7 +29,7 @@ from typing import Iterator, NamedTuple
 
 sys.dont_write_bytecode = True
 sys.path.insert(0, str(Path(__file__).resolve().parent))
-from programs import TOP, needed
+from programs import TOP, needed  # noqa: E402
 
 PAGES = [
     'README.md',
@@ -157,11 +157,13 @@ def page_commands(page: str) -> list[Command]:
     text = page_text(page)
     found = list(BLOCK.finditer(text))
     commands = []
-    for block, after in zip(found, found[1:] + [None]):
+    for block, after in zip(found, [*found[1:], None]):
         if block[2] != 'sh' or block[3]:
             continue
-        is_shown = after and after[2] == 'text' and not text[block.end() : after.start()].strip()
-        commands.append(Command(textwrap.dedent(block[4]), textwrap.dedent(after[4]) if is_shown else ''))
+        shown = ''
+        if after and after[2] == 'text' and not text[block.end() : after.start()].strip():
+            shown = textwrap.dedent(after[4])
+        commands.append(Command(textwrap.dedent(block[4]), shown))
     return commands
 
 
@@ -207,7 +209,8 @@ def examples(folder: Path) -> Iterator[Tried]:
 
 
 def second_version(folder: Path) -> Iterator[Tried]:
-    """The report of version 2 that docs/FORMATS.md shows from its precision on: whether the words that it names give it."""
+    """The report of version 2 that docs/FORMATS.md shows from its precision on: whether the words that it names give
+    it."""
     told = re.search(
         r'^With `([^`]+)` the same coin gives .*?^```text\n(.*?)^```', page_text('docs/FORMATS.md'), re.S | re.M
     )

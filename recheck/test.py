@@ -3,9 +3,9 @@
 
 Examples, reports with changes whose answers were worked out by hand, every proper prefix of a report. The `check` of a
 built plift is asked the same, and about N reports with random changes (1000 if left out) of the examples and of the
-reports that are named; both have to say the same, byte for byte. What `lumped` writes of examples and of random chains has
-to be the quotient that lumped.py computes. PATH is that plift; without it the proved program is
-asked where it is built, else the copy of `./plift --quick`, and where neither is, recheck.py alone.
+reports that are named; both have to say the same, byte for byte. What `lumped` writes of examples and of random chains
+has to be the quotient that lumped.py computes. PATH is that plift; without it the proved program is asked where it is
+built, else the copy of `./plift --quick`, and where neither is, recheck.py alone.
 """
 from __future__ import annotations
 
@@ -17,13 +17,13 @@ import subprocess
 import sys
 import tempfile
 from pathlib import Path
-from typing import NamedTuple
+from typing import Dict, List, NamedTuple, Optional, Tuple
 
 HERE = Path(__file__).resolve().parent
 sys.dont_write_bytecode = True
 sys.path.insert(0, str(HERE))
-import recheck
-from programs import needed, program
+import recheck  # noqa: E402
+from programs import needed, program  # noqa: E402
 
 EXAMPLES = {path.stem.upper(): path.read_bytes() for path in sorted((HERE.parent / 'examples').glob('*.report'))}
 
@@ -82,7 +82,7 @@ row 0 1 2;to 1 0:1 1:-1;to 2 1:1;row 1 0 1;to 1 0:1;row 2 0 1;to 2 0:1;property 
 HANDS = '''plift-property 1;kind mdp;parameters 1 p;common 4;states 3;init 0;goal 1 1;row 0 0 3;to 0 0:2;to 1 1:2;to 2 0:2 1:-2;
 row 0 1 3;to 0 0:2;to 1 0:1;to 2 0:1;row 1 0 1;to 1 0:4;row 2 0 1;to 2 0:4;property %s;precision 4;depth 0;grid 20;
 box 12 16;holds;lower e 2 k 1 m 2 b 8/16;y 8 16 0;rank 1 0 -;'''
-PROPERTIES = {
+PROPERTIES_AS_ROWS = {
     'MOST': TWIN % ('<= 13/16', 0, '12 16', 'holds;x 13 16 0;'),
     'BELOW': TWIN % ('< 7/8', 0, '12 16', 'holds;x 13 16 0;'),
     'SOME': TWIN % ('<= 1/2', 0, '12 16', 'fails;lower e 1 k 1 m 1 b 9/16;y 9 16 0;choice 0 - -;rank 1 0 -;'),
@@ -94,20 +94,21 @@ PROPERTIES = {
     'HALVES': TWIN
     % ('< 1/2', 1, '4 16', 'split 0;unknown;fails;lower e 1 k 1 m 1 b 8/16;y 8 16 0;choice 0 - -;rank 1 0 -;'),
 }
-PROPERTIES = {name: text.replace('\n', '').replace(';', '\n').encode() for name, text in PROPERTIES.items()}
+PROPERTIES = {name: text.replace('\n', '').replace(';', '\n').encode() for name, text in PROPERTIES_AS_ROWS.items()}
 
-# Texts of costs. A coin that is tossed again in half of the cases, at 1 for each toss; heads with p, else it is left alone.
+# Texts of costs. A coin that is tossed again in half of the cases, at 1 for each toss; heads with p, else it is left
+# alone.
 TOSSES = '''plift-cost 1;kind dtmc;parameters 1 p;common 2;states 3;init 0;goal 1 1;row 0 0 3;to 0 0:1;to 1 1:1;to 2 0:1 1:-1;
 row 1 0 1;to 1 0:2;row 2 0 1;to 2 0:2;cost %s;cap %d;budget %s;precision 4;depth 0;grid 5;box 1 2;%s'''
 # Either the goal at once, for 1/3 with p, else once more at the other state, for 3/4; or there at once.
 WAYS = '''plift-cost 1;kind mdp;parameters 1 p;common 1;states 3;init 0;goal 1 1;row 0 0 2;to 1 1:1;to 2 0:1 1:-1;row 0 1 1;to 2 0:1;
 row 1 0 1;to 1 0:1;row 2 0 1;to 1 0:1;cost 1/3 7/2 3/4;cap 2;budget %s;precision 6;depth 1;grid 4;box 0 4;%s'''
-COSTS = {
+COSTS_AS_ROWS = {
     'TOSSES': TOSSES % ('1/1 0/1 0/1', 4, '2/1', 'accept 8 0 0;'),
     'ROUNDED': TOSSES % ('5/3 1/1 0/1', 4, '7/2', 'accept 14 0 0;'),
     'WAYS': WAYS % ('35/32', 'split 0;accept 35 0 24;accept 35 0 24;'),
 }
-COSTS = {name: text.replace('\n', '').replace(';', '\n').encode() for name, text in COSTS.items()}
+COSTS = {name: text.replace('\n', '').replace(';', '\n').encode() for name, text in COSTS_AS_ROWS.items()}
 
 # The coin again, in the second version: over halves of a region from 1/10 to 9/10, each leaf at its own precision.
 RANGE = b'''plift 2;kind dtmc;parameters 1 p;common 1;states 3;init 0;goal 1 1;row 0 0 2;to 1 1:1;to 2 0:1 1:-1;row 1 0 1;
@@ -120,9 +121,9 @@ at 4;reject e 1 k 1 m 1 b 11/16;y 11 16 0;choice 0 - -;rank 1 0 -;'''.replace(
 
 
 def ranged(text: bytes) -> bytes:
-    """The same tree in version 2, whose leaves have in turn the precision, one more and two more: each number is doubled
-    so often."""
-    lines, more = [], -1
+    """The same tree in version 2, whose leaves have in turn the precision, one more and two more: each number is
+    doubled so often."""
+    lines, more, precision = [], -1, 0
     for line in text.decode().splitlines():
         key, *words = line.split(' ')
         if key in ('accept', 'reject'):
@@ -688,7 +689,8 @@ class Answer(NamedTuple):
 
 def changed(report: str, changes: str) -> bytes:
     """A report's text with changes, as a row tells them."""
-    lines = {**REPORTS, **STEPS, **PROPERTIES, **COSTS}[report].decode().splitlines()
+    texts: Dict[str, bytes] = {**REPORTS, **STEPS, **PROPERTIES, **COSTS}
+    lines: List[Optional[str]] = [*texts[report].decode().splitlines()]
     for change in filter(None, changes.split(' / ')):
         number, line = change.split('=', 1)
         lines[int(number) - 1] = None if line == '-' else line.replace(';', '\n')
@@ -915,11 +917,12 @@ def main() -> int:
     print(f'{tests.count} reports of the table')
     compare_prefixes(tests)
     print(f'{tests.count} with prefixes of a report')
-    for what, table, texts in (
+    rows: List[Tuple[str, str, Dict[str, bytes]]] = [
         ('for a number of steps', STEPS_TABLE, STEPS),
         ('of properties', PROPERTY_TABLE, PROPERTIES),
         ('of costs', COST_TABLE, COSTS),
-    ):
+    ]
+    for what, table, texts in rows:
         alone = compare_alone(table, texts)
         print(f'{alone.count} {what}, and their prefixes')
         tests.wrong += alone.wrong

@@ -22,7 +22,7 @@ import threading
 import time
 from concurrent.futures import FIRST_COMPLETED, Future, ThreadPoolExecutor, wait
 from pathlib import Path
-from typing import Dict, Iterator, List, Optional, Set
+from typing import Any, Dict, Iterator, List, Optional, Set, Tuple
 
 sys.path.insert(0, str(Path(__file__).resolve().parent))
 import leash  # noqa: E402
@@ -209,7 +209,7 @@ class Running:
     def __init__(self, locks: List[int]):
         self._locks = locks
         self._guard = threading.Lock()
-        self._started: Dict[str, subprocess.Popen] = {}
+        self._started: Dict[str, "subprocess.Popen[Any]"] = {}
         self._since: Dict[str, float] = {}
         self._stopping = False
 
@@ -227,7 +227,8 @@ class Running:
             finally:
                 with self._guard:
                     del self._started[crate], self._since[crate]
-                started.stdin.close()
+                if started.stdin:
+                    started.stdin.close()
 
     def minutes(self) -> Dict[str, float]:
         """Returns for how long each crate has been worked on."""
@@ -329,7 +330,7 @@ class Build:
         finally:
             room.take_back()
 
-    def _start(self, waiting: List[str], done: Set[str], busy: List[str]) -> Iterator[tuple]:
+    def _start(self, waiting: List[str], done: Set[str], busy: List[str]) -> Iterator[Tuple[str, int, bool]]:
         """Takes the crates that can begin now off the list, each with its number of jobs: as many as
         there are lanes for the one with the longest chain above it, one for each other, and one for the
         program, which is a single function: each job would load all libraries anew."""
@@ -343,9 +344,10 @@ class Build:
 
     def run(self, locks: List[int]) -> None:
         """Builds all crates, those with the longest chain above them first."""
-        waiting, done = list(self.order), set()
+        waiting = list(self.order)
+        done: Set[str] = set()
         running = Running(locks)
-        futures: Dict[Future, str] = {}
+        futures: Dict["Future[int]", str] = {}
         failed: Optional[str] = None
         with ThreadPoolExecutor(self.lanes) as pool:
             try:

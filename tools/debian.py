@@ -7,7 +7,7 @@ import os
 import subprocess
 import tempfile
 from pathlib import Path
-from typing import Dict
+from typing import Dict, List
 
 CONTROL = """Package: plift
 Version: {version}
@@ -84,7 +84,7 @@ def write_control(root: Path, version: str, kind: str, commit: str) -> None:
     (folder / "prerm").chmod(0o755)
 
 
-def done(words: list, environment: Dict[str, str]) -> None:
+def done(words: List[str], environment: Dict[str, str]) -> None:
     """Runs a command, which has to end well."""
     ran = subprocess.run(words, env=environment, capture_output=True, text=True)
     if ran.returncode:

@@ -9,13 +9,14 @@ its words, and TEXT what it read, which is looked at where it is a file. Writes 
 from __future__ import annotations
 
 import gc
+import importlib
 import os
 import re
 import signal
 import stat
 import sys
 from pathlib import Path
-from typing import List, Optional
+from typing import Callable, List, Optional
 
 sys.path.insert(0, str(Path(__file__).resolve().parent))
 
@@ -39,7 +40,8 @@ def text_given() -> Optional[bytes]:
     try:
         if not stat.S_ISREG(os.fstat(0).st_mode):
             return None
-        pieces, size = [], 0
+        pieces: List[bytes] = []
+        size = 0
         while size <= MOST_BYTES:
             piece = os.pread(0, PIECE, size)
             if not piece:
@@ -53,7 +55,7 @@ def text_given() -> Optional[bytes]:
 
 def lines_for(status: int, words: List[str]) -> List[str]:
     """The hints; where looking into the text takes too long, those that need no text."""
-    from hints import hints
+    hints: Callable[..., List[str]] = importlib.import_module("hints").hints
 
     note, program = os.environ.get("PLIFT_NOTE", ""), os.environ.get("PLIFT_PROGRAM", "plift")
     signal.signal(signal.SIGALRM, stop)

@@ -9,11 +9,11 @@ changes in before they are proved. Nothing is proved of it.
     native check < report
     native time --goal G --region R --depth H --precision W < model
 
-`plift` and `plift-view` are the whole programs (tools/quick.py builds these two alone). `native verify` writes the report
-that `plift verify` writes, and on standard error the milliseconds of its steps. `time` prints the least milliseconds of
-five calls, or as many as RUNS says, in one process: links, table, least upper vector, least value vector, greatest
-rejecting certificate for the bound 0. Its refusals have no notes. In the shim `rstd` stand the parts of the kit's library
-that the code uses.
+`plift` and `plift-view` are the whole programs (tools/quick.py builds these two alone). `native verify` writes the
+report that `plift verify` writes, and on standard error the milliseconds of its steps. `time` prints the least
+milliseconds of five calls, or as many as RUNS says, in one process: links, table, least upper vector, least value
+vector, greatest rejecting certificate for the bound 0. Its refusals have no notes. In the shim `rstd` stand the parts
+of the kit's library that the code uses.
 """
 
 import os
@@ -21,7 +21,7 @@ import sys
 
 sys.path.insert(0, os.path.join(os.path.dirname(os.path.abspath(__file__)), "native"))
 sys.dont_write_bytecode = True
-import workspace
+import workspace  # noqa: E402
 
 
 def main() -> None:

@@ -37,7 +37,8 @@ def without_comments(text: str) -> str:
 
 
 def parts(code: str, at: int) -> tuple[list[str], int]:
-    """What stands between the commas of the brackets that open there, without an empty last part, and where they end."""
+    """What stands between the commas of the brackets that open there, without an empty last part, and where they
+    end."""
     found: list[str] = []
     depth, begin = 0, at + 1
     for place in range(at, len(code)):

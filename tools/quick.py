@@ -1,12 +1,12 @@
 #!/usr/bin/env python3
-"""Builds plift and plift-view without the prover, by cargo, where they aren't built yet or a source is newer, and prints
-the path of the one that is asked for:
+"""Builds plift and plift-view without the prover, by cargo, where they aren't built yet or a source is newer, and
+prints the path of the one that is asked for:
 
     quick.py [plift | plift-view]
 
-The programs, build/quick/plift and build/quick/plift-view, do what the proved ones do, from the same code, but nothing is
-proved of them. It needs Python and cargo, no network and no kit. All that is told goes to standard error, and what cargo
-says to build/quick.log. It ends with 70 where they can't be built.
+The programs, build/quick/plift and build/quick/plift-view, do what the proved ones do, from the same code, but nothing
+is proved of them. It needs Python and cargo, no network and no kit. All that is told goes to standard error, and what
+cargo says to build/quick.log. It ends with 70 where they can't be built.
 """
 
 from __future__ import annotations
@@ -97,7 +97,7 @@ def compiler() -> tuple[int, ...]:
     for tool in ("cargo", os.environ.get("RUSTC", "rustc")):
         version = version_of(tool)
         if version < OLDEST:
-            raise Refused("%s is too old (%d.%d): %s" % (tool, *version, INSTALL))
+            raise Refused(f"{tool} is too old ({version[0]}.{version[1]}): {INSTALL}")
     return version
 
 
@@ -153,7 +153,7 @@ class Progress:
 
 def compiled(line: str) -> str | None:
     """The program that a line of cargo's messages tells of."""
-    message = json.loads(line) if line.startswith("{") else {}
+    message: dict[str, str | None] = json.loads(line) if line.startswith("{") else {}
     return message.get("executable")
 
 
@@ -165,7 +165,7 @@ def run_cargo(source: str, log: TextIO, progress: Progress) -> dict[str, str]:
         said = {"stderr": subprocess.PIPE, "text": True, "errors": "replace"}
         with leash.start(command, cwd=source, stdout=messages, **said) as cargo:
             try:
-                for line in cargo.stderr:
+                for line in cargo.stderr or ():
                     log.write(line)
                     progress.pass_line(line)
             except BaseException:

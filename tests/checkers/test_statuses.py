@@ -116,7 +116,8 @@ class Lumped(EndCase):
         got = run([str(LUMPED), "--help"])
         self.assertEqual((got.status, got.note), (0, ""))
         self.assertIn("python3 lumped.py MODEL [LABEL] < report", got.out)
-        for words in ([], [DIE, "one", "two"]):
+        wrong: list[list[str]] = [[], [DIE, "one", "two"]]
+        for words in wrong:
             self.ends(run([str(LUMPED), *words]), 2, "usage: lumped.py MODEL [LABEL] < report")
 
     def test_read_fault(self) -> None:

@@ -1,5 +1,5 @@
-"""The text of `cost` by sweeps: the least numbers of each rectangle, rounded up, without any of plift's code. It is slow,
-and made to be read: what docs/FORMATS.md says of a leaf's numbers, in its own words."""
+"""The text of `cost` by sweeps: the least numbers of each rectangle, rounded up, without any of plift's code. It is
+slow, and made to be read: what docs/FORMATS.md says of a leaf's numbers, in its own words."""
 
 from __future__ import annotations
 
@@ -17,8 +17,8 @@ def ratio(value: Fraction) -> str:
 
 
 def least_numbers(process: Process, asked: Asked, box: Box) -> Optional[List[int]]:
-    """The least numbers over 2 to the precision, which stands for the cap, that pay at each state for its own cost and then
-    have the mean of each choice left, at each corner; none where a number would be above the cap's."""
+    """The least numbers over 2 to the precision, which stands for the cap, that pay at each state for its own cost and
+    then have the mean of each choice left, at each corner; none where a number would be above the cap's."""
     rectangle = Rectangle(process, box, asked.precision)
     prices = [-(-cost * rectangle.top // asked.cap) for cost in asked.costs]
     numbers, changed = [0] * rectangle.count, True

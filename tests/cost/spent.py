@@ -39,7 +39,8 @@ def tossed(chance: random.Random, count: int) -> List[Fraction]:
 def spent_by_some(
     chance: random.Random, process: Process, costs: Sequence[Fraction], rows: Rows, s: int, steps: int
 ) -> Fraction:
-    """What a plan spends from a state in so many steps, which is made up on the way: it tosses anew after each history."""
+    """What a plan spends from a state in so many steps, which is made up on the way: it tosses anew after each
+    history."""
     if steps == 0 or s in process.goals:
         return Fraction(0)
     total = costs[s]

@@ -4,9 +4,9 @@
     tests/cost/test_cost.py [--count N] [--seed S] [--program PATH]
 
 Of so many questions of chains and decision processes, 150 if left out, with 0 to 2 parameters and with costs that are
-fractions: the text is the one of cheapest.py, byte for byte; recheck.py finds it sound; and at sampled valuations of each
-accepting leaf no plan is expected to spend more than the budget in the first steps, and none more at any state than its
-number says (spent.py). Where no program is built, the reference's own texts are tried.
+fractions: the text is the one of cheapest.py, byte for byte; recheck.py finds it sound; and at sampled valuations of
+each accepting leaf no plan is expected to spend more than the budget in the first steps, and none more at any state
+than its number says (spent.py). Where no program is built, the reference's own texts are tried.
 """
 
 from __future__ import annotations

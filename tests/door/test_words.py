@@ -6,7 +6,6 @@ import shlex
 import subprocess
 import tempfile
 import unittest
-from pathlib import Path
 from typing import Set
 
 from common import TOP, quick_program, tool

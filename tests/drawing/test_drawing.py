@@ -1,5 +1,5 @@
-"""Tests of what draws texts of `bounded`, `property` and `cost`: its pictures of reports have the bytes of plift-view, and
-its answers to texts for a number of steps, of properties and of costs are those that were worked out by hand."""
+"""Tests of what draws texts of `bounded`, `property` and `cost`: its pictures of reports have the bytes of plift-view,
+and its answers to texts for a number of steps, of properties and of costs are those that were worked out by hand."""
 
 import os
 import subprocess

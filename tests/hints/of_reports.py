@@ -2,7 +2,7 @@
 
 import gzip
 
-from table import COIN, REPORT, RETRY, Mistake, changed, example
+from table import REPORT, RETRY, Mistake, changed, example
 
 TREE = example("retry-tree.report")
 COIN_REPORT = example("coin.report")

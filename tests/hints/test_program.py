@@ -119,7 +119,10 @@ class Program(unittest.TestCase):
 
     def test_streams(self) -> None:
         """What standard input and output are is told where reading or writing failed."""
-        folder = "import os, runpy, sys; os.dup2(os.open('/', os.O_RDONLY), 0); sys.argv[:] = sys.argv[1:]; runpy.run_path(sys.argv[0], run_name='__main__')"
+        folder = (
+            "import os, runpy, sys; os.dup2(os.open('/', os.O_RDONLY), 0); sys.argv[:] = sys.argv[1:];"
+            " runpy.run_path(sys.argv[0], run_name='__main__')"
+        )
         run = subprocess.run(  # Python itself doesn't start with a folder there
             [sys.executable, "-B", "-c", folder, str(PROGRAM), "5", "--", "check"],
             env={**os.environ, "PLIFT_NOTE": "read fault"},

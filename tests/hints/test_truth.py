@@ -1,7 +1,7 @@
 """What the hints propose helps: the proposal is taken, and the program doesn't say the same again.
 
-For each mistake of the tables whose hints hold a proposal that can be taken by itself: a region, a bound, a word, a line
-of the text, a command that mends a file. It needs a built program.
+For each mistake of the tables whose hints hold a proposal that can be taken by itself: a region, a bound, a word, a
+line of the text, a command that mends a file. It needs a built program.
 """
 
 from __future__ import annotations

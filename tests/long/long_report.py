@@ -23,7 +23,7 @@ import sys
 from dataclasses import dataclass
 from functools import lru_cache
 from pathlib import Path
-from typing import Iterator, Tuple
+from typing import Iterator
 
 TOP = Path(__file__).resolve().parents[2]
 QUICK = TOP / "build" / "quick" / "plift"
@@ -34,8 +34,8 @@ SPLIT = b"split 0\n"
 
 
 class Long:
-    """A report over one parameter p: state 0 leads to the goal, state 1, with p, else to state 2. No other state is ever
-    left, and each of those from state 3 on has some number."""
+    """A report over one parameter p: state 0 leads to the goal, state 1, with p, else to state 2. No other state is
+    ever left, and each of those from state 3 on has some number."""
 
     def __init__(self, most: int, states: int = STATES) -> None:
         one, chance = 2**PRECISION, random.Random(1)
@@ -60,7 +60,8 @@ class Long:
 
     def __len__(self) -> int:
         """How many bytes it has."""
-        return len(self.head) + self.leaves * len(self.leaf) + (self.leaves - 1) * len(SPLIT)
+        nodes = self.leaves * len(self.leaf) + (self.leaves - 1) * len(SPLIT)
+        return len(self.head) + int(nodes)
 
     def pieces(self) -> Iterator[bytes]:
         """Its bytes, in order."""
@@ -100,8 +101,8 @@ def peak_of(process: int) -> int:
 
 def check(program: Path, report: Long) -> Checked:
     """Pipes a report into `check`."""
-    pipes = {"stdin": subprocess.PIPE, "stdout": subprocess.PIPE, "stderr": subprocess.PIPE}
-    process = subprocess.Popen([str(program), "check"], **pipes)
+    pipe = subprocess.PIPE
+    process = subprocess.Popen([str(program), "check"], stdin=pipe, stdout=pipe, stderr=pipe)
     assert process.stdin and process.stdout and process.stderr
     peak = 0
     try:

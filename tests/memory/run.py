@@ -179,7 +179,8 @@ class Bench:
             env=around,
             timeout=60,
         )
-        requests, before = [], None
+        requests: list[int] = []
+        before = None
         with open(log) as file:
             for line in file:
                 size, what = line.split()

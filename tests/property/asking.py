@@ -51,7 +51,8 @@ def checked(text: bytes) -> str:
 
 
 def wrong_text(words: List[str], model: bytes, wanted: bytes, sound: str) -> str:
-    """How the program's text isn't the one that is wanted, or isn't sound as it should be; nothing where all is well."""
+    """How the program's text isn't the one that is wanted, or isn't sound as it should be; nothing where all is
+    well."""
     told = f"\n{model.decode()}{words}"
     if has_program():
         got = ask(words, model)

@@ -64,7 +64,7 @@ def schedulers(process: Process) -> Iterator[Picks]:
 
 
 def extremes(process: Process, at: Valuation, is_until: bool) -> Tuple[List[Fraction], List[Fraction]]:
-    """The least and the greatest probability with which the goal is reached from each state. One memoryless scheduler has
-    the least one at all states, and one the greatest, so others reach no less and no more."""
+    """The least and the greatest probability with which the goal is reached from each state. One memoryless scheduler
+    has the least one at all states, and one the greatest, so others reach no less and no more."""
     found = [reached(process, picks, at, is_until) for picks in schedulers(process)]
     return [min(numbers) for numbers in zip(*found)], [max(numbers) for numbers in zip(*found)]

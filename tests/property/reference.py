@@ -1,5 +1,5 @@
-"""The text of `property` by sweeps: the least and the greatest numbers of each rectangle, rounded, without any of plift's
-code. It is slow, and made to be read: what docs/FORMATS.md says of a leaf's numbers, in its own words."""
+"""The text of `property` by sweeps: the least and the greatest numbers of each rectangle, rounded, without any of
+plift's code. It is slow, and made to be read: what docs/FORMATS.md says of a leaf's numbers, in its own words."""
 
 from __future__ import annotations
 
@@ -116,7 +116,8 @@ class Rectangle:
         return next(e for e in range(1000) if least * 2**e >= 1)
 
     def greatest_lower_all(self) -> Lower:
-        """For every scheduler: in each stage are the states all of whose choices lead into those before, at each corner."""
+        """For every scheduler: in each stage are the states all of whose choices lead into those before, at each
+        corner."""
         ranks: Ranks = [0 if s in self.goals else None for s in range(self.count)]
         for stage in range(1, self.count):
             new = [
@@ -137,7 +138,8 @@ class Rectangle:
         return Lower(numbers, None, ranks, e, max([1, *(ranks[s] for s in ranked)]))
 
     def stages(self, numbers: List[int]) -> Tuple[Ranks, List[Optional[int]]]:
-        """The stages of states that have a choice whose means aren't below their number, and that leads into those before."""
+        """The stages of states that have a choice whose means aren't below their number, and that leads into those
+        before."""
         ranks: Ranks = [0 if s in self.goals else None for s in range(self.count)]
         picks: List[Optional[int]] = [None] * self.count
         allowed = {
@@ -153,8 +155,8 @@ class Rectangle:
         return ranks, picks
 
     def greatest_lower(self) -> Lower:
-        """For one scheduler. Of the states without rank the highest ones have to be lowered: no lower vector below these
-        numbers keeps them, since its first of them to be ranked would lead into ranked states here, too."""
+        """For one scheduler. Of the states without rank the highest ones have to be lowered: no lower vector below
+        these numbers keeps them, since its first of them to be ranked would lead into ranked states here, too."""
         numbers = [self.top] * self.count
         while True:
             changed = True

@@ -1,12 +1,13 @@
 #!/usr/bin/env python3
-"""What `property` says of small models made at random is true, and has the bytes of a text that is found in another way:
+"""What `property` says of small models made at random is true, and has the bytes of a text that is found in another
+way:
 
     tests/property/test_property.py [--count N] [--seed S] [--program PATH]
 
-Of so many questions of chains and decision processes, 120 if left out, with 0 to 2 parameters, all four comparisons, `F` and
-`U`: the text is the one of reference.py, byte for byte; recheck.py finds it sound; and at sampled valuations of each decided
-leaf the property holds or fails as the leaf says, and each number bounds what is reached, as all memoryless schedulers
-reach it (exact.py). Where no program is built, the reference's own texts are tried.
+Of so many questions of chains and decision processes, 120 if left out, with 0 to 2 parameters, all four comparisons,
+`F` and `U`: the text is the one of reference.py, byte for byte; recheck.py finds it sound; and at sampled valuations of
+each decided leaf the property holds or fails as the leaf says, and each number bounds what is reached, as all
+memoryless schedulers reach it (exact.py). Where no program is built, the reference's own texts are tried.
 """
 
 from __future__ import annotations

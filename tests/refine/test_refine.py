@@ -1,6 +1,6 @@
 #!/usr/bin/env python3
-"""What `refine` writes is what `verify` writes at the deeper depth, byte for byte, where the report is one that `verify`
-wrote; from any other sound report it goes on to a sound one that keeps its decided leaves.
+"""What `refine` writes is what `verify` writes at the deeper depth, byte for byte, where the report is one that
+`verify` wrote; from any other sound report it goes on to a sound one that keeps its decided leaves.
 
     tests/refine/test_refine.py [MODELS [SEED]]
 
@@ -169,7 +169,8 @@ class Refines(unittest.TestCase):
                 self.assertEqual(answer, Answer(status, b"", note))
 
     def test_a_grid_that_is_too_large(self) -> None:
-        """The number of the grid, or an end over it, is 2^62 or more, or a row is too wide: `verify` refuses as well."""
+        """The number of the grid, or an end over it, is 2^62 or more, or a row is too wide: `verify` refuses as
+        well."""
         model = (
             b"@type: DTMC\n@parameters\np\n@model\nstate 0 init\n1 : p\n2 : 1-p\nstate 1 goal\n1 : 1\nstate 2\n2 : 1\n"
         )
@@ -186,7 +187,8 @@ class Refines(unittest.TestCase):
                     self.assertEqual((answer.status, answer.out), (wanted.status, b""))
 
     def test_a_row_that_is_too_wide(self) -> None:
-        model = b"@type: DTMC\n@parameters\np q\n@model\nstate 0 init\n1 : p*q\n2 : 1-p*q\nstate 1 goal\n1 : 1\nstate 2\n2 : 1\n"
+        model = b"@type: DTMC\n@parameters\np q\n@model\nstate 0 init\n1 : p*q\n2 : 1-p*q\n"
+        model += b"state 1 goal\n1 : 1\nstate 2\n2 : 1\n"
         words = [
             "verify",
             "--goal",

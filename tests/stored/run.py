@@ -3,11 +3,11 @@
 
     run.py [--program PATH] [--view PATH] [--proved PATH --proved-view PATH]
 
-These are the tables of crates/plift_tests and crates/view_tests and the runs beside each program's source, as far as they
-can be given by standard streams, and what newcomers get wrong. Each report that `verify` writes is checked as well, and
-what `migrate` makes of one of version 1 has the bytes that it should have, and is checked. The programs are those of
-tools/quick.py if left out, which builds them where need be. With --proved and --proved-view a second pair of programs is
-given the same, and the examples besides: both have to answer the same, byte for byte.
+These are the tables of crates/plift_tests and crates/view_tests and the runs beside each program's source, as far as
+they can be given by standard streams, and what newcomers get wrong. Each report that `verify` writes is checked as
+well, and what `migrate` makes of one of version 1 has the bytes that it should have, and is checked. The programs are
+those of tools/quick.py if left out, which builds them where need be. With --proved and --proved-view a second pair of
+programs is given the same, and the examples besides: both have to answer the same, byte for byte.
 """
 
 import argparse
@@ -20,11 +20,11 @@ from pathlib import Path
 
 sys.dont_write_bytecode = True
 sys.path.insert(0, str(Path(__file__).resolve().parent))
-import examples
-import mistakes
-import streams
-from cases import DONE, STATUSES, UNREADABLE, Answer, Case, left_out, stored
-from tables import TOP
+import examples  # noqa: E402
+import mistakes  # noqa: E402
+import streams  # noqa: E402
+from cases import DONE, STATUSES, UNREADABLE, Answer, Case, left_out, stored  # noqa: E402
+from tables import TOP  # noqa: E402
 
 SECONDS = 120
 # The status of a run that took longer.

@@ -1,4 +1,5 @@
-"""Reads the tables of the tests: each is a text in the source of a test, a row in each line and its cells between bars."""
+"""Reads the tables of the tests: each is a text in the source of a test, a row in each line and its cells between
+bars."""
 
 import re
 from pathlib import Path

@@ -6,8 +6,8 @@ from pathlib import Path
 
 sys.dont_write_bytecode = True
 sys.path.insert(0, str(Path(__file__).resolve().parent.parent.parent / "tools" / "native"))
-import contracts
-import rust
+import contracts  # noqa: E402
+import rust  # noqa: E402
 
 PROVED = """\
 // Adds.

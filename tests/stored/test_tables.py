@@ -6,8 +6,8 @@ from pathlib import Path
 
 sys.dont_write_bytecode = True
 sys.path.insert(0, str(Path(__file__).resolve().parent))
-import cases
-import tables
+import cases  # noqa: E402
+import tables  # noqa: E402
 
 
 class Tables(unittest.TestCase):

@@ -4,10 +4,10 @@
     tests/tiles/random_models.py [--count N] [--seed S]
 
 Chains and decision processes, of 0 to 3 parameters, with dead ones whose ends are negative, at precisions from 1 to 40,
-half of them with a range of precisions.
-The bound of each lies between what is reached everywhere and what is reached somewhere, so that most have unknown
-leaves. The joined report has to be that of a single `verify`, byte for byte, after one or two rounds, and what is joined
-in part has to be sound. Ends with 1 where one isn't, and tells its number and the seed.
+half of them with a range of precisions. The bound of each lies between what is reached everywhere and what is reached
+somewhere, so that most have unknown leaves. The joined report has to be that of a single `verify`, byte for byte, after
+one or two rounds, and what is joined in part has to be sound. Ends with 1 where one isn't, and tells its number and the
+seed.
 """
 
 import argparse

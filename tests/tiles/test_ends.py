@@ -1,5 +1,5 @@
-"""How calls end that are stopped, that find no room, or whose program fails: nothing wrong is left, and the same words do
-what is left."""
+"""How calls end that are stopped, that find no room, or whose program fails: nothing wrong is left, and the same words
+do what is left."""
 
 import os
 import resource
@@ -122,7 +122,11 @@ class Ends(TilesCase):
 
     def limited(self, line: str, given: bytes = b"") -> tuple:
         """What a call comes to that can write 300 bytes to a file."""
-        few = lambda: resource.setrlimit(resource.RLIMIT_FSIZE, (300, 300))
+
+        def few() -> None:
+            """Sets the limit."""
+            resource.setrlimit(resource.RLIMIT_FSIZE, (300, 300))
+
         return self.call(line, given, preexec_fn=few)
 
     def test_no_room(self) -> None:

@@ -1,5 +1,6 @@
-"""What runs the tiles: xargs, GNU parallel where it is installed, a Slurm job array, Snakemake where it is installed. They
-only call `plift-tiles work`; after a worker was killed, the same line, or the engine by itself, does what is left."""
+"""What runs the tiles: xargs, GNU parallel where it is installed, a Slurm job array, Snakemake where it is installed.
+They only call `plift-tiles work`; after a worker was killed, the same line, or the engine by itself, does what is
+left."""
 
 import os
 import shutil

@@ -7,8 +7,8 @@ from common import EXAMPLES, Job, TilesCase, joined, split, work, written
 from plift_lab.faults import Fault
 from random_models import compare
 
-# Each row: an example, its goal, a bound, a region, a precision, or the least and the greatest one, a first depth, deeper
-# ones in turn, and whether there are tiles.
+# Each row: an example, its goal, a bound, a region, a precision, or the least and the greatest one, a first depth,
+# deeper ones in turn, and whether there are tiles.
 TABLE = """
 coin.drn  | heads | 1/3   | 1/10<=p<=9/10                          | 10   | 0 | 1, 6  | some
 loop.drn  | heads | 1/2   | 1/10<=p<=9/10                          | 24   | 2 | 9     | some

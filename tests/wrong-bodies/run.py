@@ -35,7 +35,10 @@ from typing import Dict, List, NamedTuple, Optional
 
 HERE = Path(__file__).resolve().parent
 sys.path.insert(0, str(HERE.parent.parent / "tools"))
-from build import TOP, closure, dependencies, lay_out  # noqa: E402
+import build  # noqa: E402
+from build import closure, dependencies, lay_out  # noqa: E402
+
+TOP = build.TOP
 
 # What the kit's command says of one that it refuses; where that shows less, the reason follows in parentheses.
 REFUSED = re.compile(r"must-fail (\S+): refused, as it must be(?: \(only (\w+ \w+))?")

@@ -3,7 +3,7 @@
 from __future__ import annotations
 
 from fractions import Fraction
-from typing import Dict, List, Optional, Tuple
+from typing import List, Optional, Tuple
 
 from .leaves import ACCEPT, FAILS, HOLDS, REJECT, UNKNOWN, Leaf, Map, Span
 from .slices import Slice, meets
@@ -29,7 +29,8 @@ TICKS = (
     '<path d="M140 0v6M270 0v6M400 0v6M530 0v6M660 0v6" stroke="#000"/>\n'
     '<text x="20" y="42" font-size="11">ticks are rounded</text>\n<g font-size="12" text-anchor="middle">',
     '<path d="M140 156h-6M140 286h-6M140 416h-6M140 546h-6M140 676h-6" stroke="#000"/>\n'
-    '<text x="660" y="126" font-size="11" text-anchor="end">ticks are rounded</text>\n<g font-size="12" text-anchor="end">',
+    '<text x="660" y="126" font-size="11" text-anchor="end">ticks are rounded</text>\n'
+    '<g font-size="12" text-anchor="end">',
 )
 
 
@@ -100,9 +101,10 @@ def legend(map_: Map) -> List[str]:
 
 def title(map_: Map) -> List[str]:
     """What was asked, of which model, and the shares of the kinds."""
+    kind = "Markov chain" if map_.is_chain else "Markov decision process"
     return [
         f'<text x="20" y="26" font-size="15" font-weight="bold">{asked(map_)}</text>',
-        f'<text x="20" y="48">{"Markov chain" if map_.is_chain else "Markov decision process"}, states: {map_.states}</text>',
+        f'<text x="20" y="48">{kind}, states: {map_.states}</text>',
         f'<text x="20" y="70">{shares(map_)}</text>',
     ]
 
@@ -135,7 +137,8 @@ def field(map_: Map, slice_: Slice) -> List[str]:
     """The rectangles that meet the slice, a path for each kind: a bar, or a square where there is an upright axis."""
     top, size = (116, 80) if slice_.y is None else (156, 520)
     lines = [
-        f'<svg x="140" y="{top}" width="520" height="{size}" viewBox="0 0 {CANVAS} {CANVAS}" preserveAspectRatio="xMinYMin slice">'
+        f'<svg x="140" y="{top}" width="520" height="{size}" viewBox="0 0 {CANVAS} {CANVAS}"'
+        ' preserveAspectRatio="xMinYMin slice">'
     ]
     shown = [leaf for leaf in map_.leaves if meets(map_, slice_.cuts, leaf)]
     for kind in map_.kinds:
@@ -154,9 +157,9 @@ def label(name: str) -> str:
 
 
 def places(span: Span, grid: int) -> Optional[int]:
-    """How many decimal places the ticks have, three, six or nine: the fewest in which a quarter of the span is ten units or
-    more. None where nine are too few, or an end has more than four digits before them."""
-    if max(map(abs, span)) >= 10000 * grid:
+    """How many decimal places the ticks have, three, six or nine: the fewest in which a quarter of the span is ten
+    units or more. None where nine are too few, or an end has more than four digits before them."""
+    if max(abs(end) for end in span) >= 10000 * grid:
         return None
     width = span[1] - span[0]
     return next((count for count in (3, 6, 9) if grid * 40 <= width * 10**count), None)

@@ -27,11 +27,12 @@ def leaf_line(map_: Map, label: str, leaf: Optional[Leaf]) -> str:
 
 def summary_text(map_: Map) -> str:
     """Leaves, shares, the first decided leaf below the fewest and the most splits, and leaves by depth."""
-    decided = [leaf for leaf in map_.leaves if leaf.kind != UNKNOWN]
+    decided = sorted((leaf for leaf in map_.leaves if leaf.kind != UNKNOWN), key=lambda leaf: leaf.depth)
+    deepest = next((leaf for leaf in decided if leaf.depth == decided[-1].depth), None)
     lines = [f"leaves {counts(map_, map_.leaves)}"]
     lines += [f"share {kind} {map_.share(kind)} {percent(map_.share(kind))}" for kind in map_.kinds]
-    lines.append(leaf_line(map_, "greatest", min(decided, key=lambda leaf: leaf.depth, default=None)))
-    lines.append(leaf_line(map_, "least", max(decided, key=lambda leaf: leaf.depth, default=None)))
+    lines.append(leaf_line(map_, "greatest", decided[0] if decided else None))
+    lines.append(leaf_line(map_, "least", deepest))
     for depth in range(map_.depth + 1):
         lines.append(f"depth {depth} {counts(map_, [leaf for leaf in map_.leaves if leaf.depth == depth])}")
     return "".join(f"{line}\n" for line in lines)

@@ -132,7 +132,7 @@ def unknown_section(place: Place) -> List[str]:
         what = "move it before that line" if section_in(place.content) else "take it out with its lines"
         return [place.here(f"behind @model no section stands: {what}")]
     text = place.content.decode("latin-1")
-    name = re.match(r"@[A-Za-z_]*", text)[0]
+    name = "".join(re.findall(r"\A@[A-Za-z_]*", text))
     behind = text[len(name) :].strip(" \t:")
     if name in SECTIONS and behind:
         if name == "@model":

@@ -18,6 +18,12 @@ PART = 2**32  # the denominator of a bound is below it
 A_FORMULA = 'P<=1/2 [F "done"]'
 
 
+def behind_blanks(text: str, at: int) -> int:
+    """The first place from there on at which no blank stands."""
+    match = BLANKS.match(text, at)
+    return match.end() if match else at
+
+
 class Formula(NamedTuple):
     """What a formula writes: its comparison, the text of its bound, and its labels."""
 
@@ -43,7 +49,7 @@ class Reader:
 
     def match(self, form: "re.Pattern[str]") -> Optional["re.Match[str]"]:
         """What stands next and is of this form, which is passed."""
-        self.at = BLANKS.match(self.text, self.at).end()
+        self.at = behind_blanks(self.text, self.at)
         match = form.match(self.text, self.at)
         self.at = match.end() if match else self.at
         return match
@@ -58,8 +64,9 @@ class Reader:
     def bound(self) -> str:
         """The text of a bound."""
         match = self.match(BOUND)
-        if not RATIO.fullmatch(match[0]):
-            raise Fault("Syntax", match.start(), "a bound is wanted here, as 1/2 or 0.5, without blanks")
+        if not match or not RATIO.fullmatch(match[0]):
+            place = match.start() if match else self.at
+            raise Fault("Syntax", place, "a bound is wanted here, as 1/2 or 0.5, without blanks")
         return match[0]
 
     def label(self) -> str:
@@ -87,9 +94,7 @@ def read_formula(text: str) -> Formula:
     if reader.at < len(text):
         raise Fault("Syntax", reader.at, "nothing stands behind the ]")
     if not is_bound(bound):
-        raise Fault(
-            "Bound", BLANKS.match(text, start).end(), "this isn't from 0 to 1, divides by 0, or has too many digits"
-        )
+        raise Fault("Bound", behind_blanks(text, start), "this isn't from 0 to 1, divides by 0, or has too many digits")
     return Formula(op, bound, safe, goal)
 
 
@@ -127,8 +132,8 @@ def plain(label: str) -> str:
 
 
 def repaired(text: str) -> Optional[str]:
-    """The formula that a text was most likely meant to be; none unless plift would read it. Of Pmax and Pmin those that a
-    comparison stands for by itself."""
+    """The formula that a text was most likely meant to be; none unless plift would read it. Of Pmax and Pmin those that
+    a comparison stands for by itself."""
     match = LIKE.fullmatch(text)
     value = about(match["bound"]) if match else None
     if match is None or value is None:
@@ -184,7 +189,8 @@ def remedy(text: str) -> str:
 
 def of_bound(text: str, fault: Fault) -> List[str]:
     """Why a bound isn't one."""
-    word = BOUND.match(text, fault.place)[0]
+    found = BOUND.match(text, fault.place)
+    word = found[0] if found else ""
     try:
         value = ratio(word)
     except Wide as why:

@@ -19,7 +19,8 @@ FORMS = {
     "verify": "plift verify --goal LABEL --bound B [--region R] [--depth H] [--precision W] [--from V] < model.drn",
     "bounded": "plift bounded --goal LABEL --bound B --steps S [--region R] [--depth H] [--precision W] < model.drn",
     "property": "plift property --formula 'P<=B [F \"LABEL\"]' [--region R] [--depth H] [--precision W] < model.drn",
-    "cost": "plift cost --goal LABEL --reward NAME --budget B --cap C [--region R] [--depth H] [--precision W] < model.drn",
+    "cost": "plift cost --goal LABEL --reward NAME --budget B --cap C [--region R] [--depth H] [--precision W]"
+    " < model.drn",
     "lumped": "plift lumped --goal LABEL --bound B [--region R] [--depth H] [--precision W] < model.drn",
     "check": "plift check < report",
     "migrate": "plift migrate < report > new.report",
@@ -66,7 +67,8 @@ MISSING = {
     "--bound": "--bound B is missing: the greatest probability that is allowed, as 1/2 or 0.5",
     "--steps": "--steps S is missing: within how many steps, from 1 to 64; plift verify asks for any number",
     "--formula": f"--formula T is missing: what is asked, as '{A_FORMULA}'",
-    "--reward": "--reward NAME is missing: one of the names behind @reward_models, whose numbers are the costs of states",
+    "--reward": "--reward NAME is missing: one of the names behind @reward_models, whose numbers are the costs of"
+    " states",
     "--budget": "--budget B is missing: the greatest expected cost that is allowed, from 0 to the cap",
     "--cap": "--cap C is missing: a whole number that no state's expected cost is above, as ten times the budget",
 }
@@ -174,8 +176,8 @@ def about_twice(name: str, values: Sequence[str]) -> str:
 
 
 class Walk:
-    """Goes through the words behind a command that reads a model, and finds their faults, the values of options, and the
-    options that other words most likely stand for."""
+    """Goes through the words behind a command that reads a model, and finds their faults, the values of options, and
+    the options that other words most likely stand for."""
 
     def __init__(self, command: str, words: Sequence[str]):
         self.command, self.words, self.at = command, words, 0

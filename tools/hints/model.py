@@ -3,6 +3,7 @@
 from __future__ import annotations
 
 import re
+from functools import partial
 from typing import Callable, Dict, List, Optional
 
 from hints import causes, rewards, states, transitions
@@ -38,7 +39,7 @@ CAUSES: Dict[str, Told] = {
     "ExtraChoice": states.extra_choice,
     "NoChoice": states.no_choice,
     "RepeatedTarget": states.repeated_target,
-    **{cause: (lambda place, most=most: states.limit(place, *most)) for cause, most in states.LIMITS.items()},
+    **{cause: partial(states.limit_of, most) for cause, most in states.LIMITS.items()},
     "LimitParameters": causes.limit_parameters,
     "LimitName": causes.limit_name,
     "LimitValueParameters": transitions.limit_value_parameters,
@@ -72,6 +73,6 @@ def model_hints(refusal: Refusal, number: int, cause: str) -> List[str]:
     return CAUSES[cause](place)
 
 
-def cause_of(note: str) -> Optional[re.Match]:
+def cause_of(note: str) -> Optional["re.Match[str]"]:
     """The line and the cause of a note behind `model: `."""
     return re.fullmatch(r"line ([0-9]{1,10}): ([A-Za-z]+)", note)

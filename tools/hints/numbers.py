@@ -56,14 +56,14 @@ def ratio(text: str) -> Optional[Fraction]:
     if match["below"] is None:
         return above
     below = literal(match["below"])
-    return narrowed(above / below) if below else None
+    return narrowed(above / below) if above is not None and below else None
 
 
 def about(text: str) -> Optional[Fraction]:
     """The value of a number that people write: also with a sign, without a digit before or behind the point, with a
     comma for the point, or in percent."""
     match = re.fullmatch(r"\s*([+-]?)\s*(.*?)\s*(%?)\s*", text, re.S)
-    sign, body, percent = match.groups()
+    sign, body, percent = match.groups() if match else ("", text, "")
     body = re.sub(r"\s*/\s*", "/", body)
     body = re.sub(r"^\.", "0.", re.sub(r"\.$", "", re.sub(r"^([0-9]+),([0-9]+)$", r"\1.\2", body)))
     try:

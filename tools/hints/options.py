@@ -21,6 +21,7 @@ def options_of(words: Sequence[str]) -> List[Setting]:
     settings: List[Setting] = []
     at = 0
     while at < len(words):
+        value: Optional[str]
         name, mark, value = words[at].partition("=")
         at += 1
         if not mark:
@@ -35,6 +36,7 @@ def view_options_of(words: Sequence[str]) -> List[Setting]:
     settings: List[Setting] = []
     at = 0
     while at < len(words):
+        value: Optional[str]
         name, mark, value = words[at].partition("=")
         at += 1
         if not mark and name in VIEWED:

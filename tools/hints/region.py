@@ -40,7 +40,8 @@ class Reader:
 
     def skip(self) -> None:
         """Passes blanks."""
-        self.at = BLANKS.match(self.text, self.at).end()
+        match = BLANKS.match(self.text, self.at)
+        self.at = match.end() if match else self.at
 
     def take(self, mark: str) -> bool:
         """Whether this stands next; if so, it is passed."""
@@ -114,7 +115,8 @@ def read_clause(reader: Reader, names: Optional[Sequence[str]], before: Sequence
 
 def read_region(text: str, names: Optional[Sequence[str]], depth: int = 0) -> List[Clause]:
     """The clauses of a region over parameters with these names, any names where they aren't known."""
-    reader, clauses = Reader(text), []
+    reader = Reader(text)
+    clauses: List[Clause] = []
     reader.skip()
     while reader.at < len(text):
         clauses.append(read_clause(reader, names, clauses))

@@ -66,9 +66,13 @@ def declared(place: Place) -> str:
     """Which reward models the text declares."""
     model = place.model
     if not model.rewards:
-        return "no reward models are declared, so no line holds values of them: a line with names stands behind @reward_models"
+        return (
+            "no reward models are declared, so no line holds values of them:"
+            " a line with names stands behind @reward_models"
+        )
     names = listed(model.rewards)
-    return f"line {model.rewards_line} declares {counted(len(model.rewards), 'reward model')}, {names}: a group has a value for each"
+    count = counted(len(model.rewards), "reward model")
+    return f"line {model.rewards_line} declares {count}, {names}: a group has a value for each"
 
 
 def reward_syntax(place: Place) -> List[str]:
@@ -94,7 +98,8 @@ def action_reward(place: Place) -> List[str]:
     if bad is None:
         return []
     return told_at(place, bad, "an action's value is 0: costs stand behind a state's number") + [
-        "where each choice of the state costs as much, write it there; else let the choice lead to a state that costs it"
+        "where each choice of the state costs as much, write it there;"
+        " else let the choice lead to a state that costs it"
     ]
 
 
@@ -106,7 +111,8 @@ def unknown_reward(place: Place) -> List[str]:
     if not names:
         return [
             "the text declares no reward models",
-            f"write @reward_models and a line {printable(asked)} before @model, and a group such as [1] behind state and its number",
+            f"write @reward_models and a line {printable(asked)} before @model,"
+            " and a group such as [1] behind state and its number",
         ]
     close = near(asked.strip("\"'[]"), names)
     meant = f"; is {close} meant?" if close else ""

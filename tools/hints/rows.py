@@ -5,7 +5,8 @@ from __future__ import annotations
 import re
 from fractions import Fraction
 from math import gcd
-from typing import Callable, Dict, List, NamedTuple, Optional, Sequence, Tuple
+from functools import partial
+from typing import Callable, Dict, FrozenSet, List, NamedTuple, Optional, Sequence, Tuple
 
 from hints.bounds import depth_of
 from hints.drn import TRANSITION, Model, lines_of, read_model
@@ -109,7 +110,7 @@ def closing(row: Row) -> str:
     return f"if the others are right, line {last.line} is {line}{rounded}"
 
 
-def product_hints(row: Row, names: frozenset, found: Fraction) -> List[str]:
+def product_hints(row: Row, names: FrozenSet[str], found: Fraction) -> List[str]:
     """Which terms with these parameters don't cancel."""
     letters = "*".join(name for name in row.names if name in names)
     terms = [(entry, entry.value[names]) for entry in row.entries if names in entry.value]
@@ -232,5 +233,6 @@ def rows_hints(refusal: Refusal, state: int, choice: int, fault: str) -> List[st
         return []
     if row is None:
         return []
-    around = Around({c.name: (c.low, c.high) for c in clauses}, lambda: fits_for(row, refusal, clauses))
+    fits = partial(fits_for, row, refusal, clauses)
+    around = Around({c.name: (c.low, c.high) for c in clauses}, fits)
     return fault_hints(row, fault, around)

@@ -228,8 +228,9 @@ def common_denominator(place: Place) -> List[str]:
     return []
 
 
-def limit(place: Place, what: str, most: int) -> List[str]:
+def limit_of(what_and_most: Tuple[str, int], place: Place) -> List[str]:
     """That there is one too many."""
+    what, most = what_and_most
     return [place.here(f"the {what} number {most + 1:,}, and at most {most:,} are taken")]
 
 

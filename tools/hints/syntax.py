@@ -26,7 +26,8 @@ def in_names(place: Place) -> List[str]:
     text = place.content.decode("latin-1")
     for match in re.finditer(r"[^ \t]+", text):
         if not NAME.fullmatch(match[0]):
-            at = match.start() + (NAME.match(match[0]) or re.match("", "")).end()
+            front = NAME.match(match[0])
+            at = match.start() + (front.end() if front else 0)
             what = "a name is a letter or _, then letters, digits and _"
             lines = pointed(f"line {place.number}: ", place.content, at, what)
             return lines + (["between names stand blanks, no commas"] if "," in text else [])

@@ -10,7 +10,7 @@ CLAIM = re.compile(r"^([ \t]*)let ([^=;{}]+?) = ((?:(?!;\n)[^{}])*?) else \{", r
 BOUND = re.compile(r"(mut )?\b([a-z_]\w*)\b(?!\s*[:(])")
 
 
-def matched(claim: re.Match, block: str) -> str:
+def matched(claim: re.Match[str], block: str) -> str:
     """A `let .. else` with this block, written as a `match`, which older compilers know as well."""
     indent, pattern, value = claim.groups()
     names = BOUND.findall(pattern)
@@ -19,7 +19,8 @@ def matched(claim: re.Match, block: str) -> str:
     if len(names) != 1:
         places, values = f"({places})", f"({values})"
     pattern = pattern.replace("mut ", "")
-    return f"{indent}let {places} = match {value} {{\n{indent}    {pattern} => {values},\n{indent}    _ => {block}\n{indent}}}"
+    arms = f"{indent}    {pattern} => {values},\n{indent}    _ => {block}\n"
+    return f"{indent}let {places} = match {value} {{\n{arms}{indent}}}"
 
 
 def without_claims(text: str) -> str:
@@ -47,5 +48,5 @@ def as_rust(text: str) -> str:
         .replace(".collect(alloc)", ".rcollect(alloc)")
         .replace("Box::new(alloc, ", "rstd::boxed(")
     )
-    front = re.match(r"(?://![^\n]*\n)*", text).group()
+    front = "".join(re.findall(r"\A(?://![^\n]*\n)*", text))
     return f"{front}#[allow(unused_imports)]\nuse rstd::prelude::*;\n{without_claims(text[len(front):])}"

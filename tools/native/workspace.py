@@ -70,7 +70,7 @@ pub unsafe extern "C" fn main(count: i32, words: *const *const std::os::raw::c_c
 
 def as_root(text: str) -> str:
     """The code of a crate's first file, whose warnings nobody looks at."""
-    front = re.match(r"(?://[^\n]*\n)*", text).group()
+    front = "".join(re.findall(r"\A(?://[^\n]*\n)*", text))
     return f"{front}#![allow(warnings)]\n{text[len(front):]}"
 
 
