@@ -180,7 +180,7 @@ def scratch() -> Iterator[str]:
 
 
 def main() -> None:
-    """Prints the milliseconds of three loads, and what the page says when it is used; writes the pictures if that is asked."""
+    """Prints the milliseconds of three loads, and what the page says when it is used; writes the pictures if asked."""
     words = argparse.ArgumentParser(description=__doc__, formatter_class=argparse.RawDescriptionHelpFormatter)
     words.add_argument('page')
     words.add_argument('--pictures', metavar='PREFIX')

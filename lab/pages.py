@@ -1,8 +1,8 @@
 #!/usr/bin/env python3
 """Writes the man page and the completion of plift-lab from the words that its commands take:  python3 lab/pages.py
 
-They stand in man/plift-lab.1, completion/plift-lab.bash and completion/_plift-lab; a test tells where they are older than
-the commands.
+They stand in man/plift-lab.1, completion/plift-lab.bash and completion/_plift-lab; a test tells where they are older
+than the commands.
 """
 
 from __future__ import annotations
@@ -87,7 +87,8 @@ def man_page() -> str:
         '.B plift\\-lab',
         'asks',
         '.BR plift (1)',
-        'for what a person wants to know. Nothing in it is believed: each answer names the reports that stand behind it,',
+        'for what a person wants to know. Nothing in it is believed: each answer names the reports that stand behind'
+        ' it,',
         'and who judged them.',
         '.PP',
         'It takes the program that',

@@ -134,7 +134,8 @@ class Verify(InFolder):
         self.assertEqual(report.depth, 10)  # at depth 8 29 of 256 are unknown
 
     def test_precision_goes_down_where_there_is_no_room(self) -> None:
-        model = b'@type: DTMC\n@parameters\np q r s\n@model\nstate 0 init\n1 : p*q*r*s\n0 : 1-p*q*r*s\nstate 1 done\n1 : 1\n'
+        model = b'@type: DTMC\n@parameters\np q r s\n@model\nstate 0 init\n1 : p*q*r*s\n0 : 1-p*q*r*s\n'
+        model += b'state 1 done\n1 : 1\n'
         region = ','.join('%s=1/1000003..2000005/4000012' % name for name in 'pqrs')
         report = plift_lab.verify(model, 'done', 1, region)
         self.assertLess(report.precision, 40)
