@@ -20,6 +20,7 @@ from dataclasses import dataclass
 from typing import Callable, List, Tuple
 
 import measure
+import models
 
 MIB = 1 << 20
 ROOM = 4 << 30  # what a run may take of memory
@@ -335,6 +336,72 @@ def fair_walk_300_from_above() -> str:
 def fair_walk_3000_from_above() -> str:
     """a fair walk over 3,000 states, with a bound of 0"""
     return walking(3000)
+
+
+# ---- hardware that fails rarely: few states and very many steps
+
+
+def rare(region: str, bound: str = "1") -> str:
+    """The words of a run of verify at precision 40, of the label "lost"."""
+    return "verify --goal lost --bound %s --precision 40 --region %s" % (bound, region)
+
+
+# a fault in 10^5 to 10^7 cycles, and a repair in 10 to 100
+SELDOM = "1/10000000<=p<=1/100000,1/100<=q<=1/10"
+
+
+@kind(rare(SELDOM))
+def scrubbed_memory() -> str:
+    """a word of memory with two wrong bits at most, for 10^6 cycles"""
+    return models.memory(2, 6)
+
+
+@kind(rare(SELDOM))
+def array_of_disks() -> str:
+    """eight disks, two of which are spare, for 10^6 cycles"""
+    return models.disks(8, 2, 6)
+
+
+@kind(rare(SELDOM))
+def watchdog_timer() -> str:
+    """a processor that is reset after eight cycles, for 10^6 cycles"""
+    return models.watchdog(8, 6)
+
+
+@kind(rare(SELDOM))
+def token_ring_5() -> str:
+    """a token that goes around five stations, for 10^6 rounds"""
+    return models.ring(5, 6)
+
+
+@kind(rare(SELDOM))
+def token_ring_50() -> str:
+    """a token that goes around fifty stations, for 10^6 rounds"""
+    return models.ring(50, 6)
+
+
+@kind(rare(SELDOM))
+def bus_off() -> str:
+    """a counter of errors up to 32, for 10^6 cycles"""
+    return models.bus(32, 6)
+
+
+@kind(rare(SELDOM))
+def spare_units() -> str:
+    """six units that take over from one another, for 10^6 cycles"""
+    return models.spares(6, 6)
+
+
+@kind(rare("1/20<=p<=1/10,3/20<=q<=1/5"))
+def full_queue() -> str:
+    """a queue of 40 places, for 10^6 cycles"""
+    return models.queue(40, 6)
+
+
+@kind(rare("1/100<=p<=1/10,1/10<=q<=1/2"))
+def nested_scales() -> str:
+    """faults behind faults, four deep, for 10^5 cycles"""
+    return models.nested(4, 5)
 
 
 # ---- end components
