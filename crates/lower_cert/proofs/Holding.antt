@@ -1,15 +1,13 @@
 -- Holding a state at a number while the others are lowered: a lower vector that has more there, made smaller by what it has more, has just that number.
-use Rattle.std.proofs.Common.{◌≡◌, ◌≢◌, ◌==◌, ℕ, ◌+◌, ◌-◌, ◌^◌, ◌<◌, ◌≤◌, ◌⊎◌, ⊎_elim, Bool, true, false, List, [], ◌∷◌, length, set, replicate, ℤ, pos, negsuc, nat_abs, ◌+ℤ◌, ◌-ℤ◌, ◌≤ℤ◌, ◌<ℤ◌, if◌then◌else◌, refl, sym, ap, subst, ◌∙◌, arith, zero, suc, true≢false, length-set, get_or-set_same, get_or-set_other}
+use Rattle.std.proofs.Common.{◌≡◌, ◌≢◌, ◌==◌, ℕ, ◌+◌, ◌-◌, ◌^◌, ◌<◌, ◌≤◌, ◌⊎◌, ⊎_elim, Bool, true, false, List, length, set, replicate, ℤ, pos, negsuc, nat_abs, ◌+ℤ◌, ◌-ℤ◌, ◌≤ℤ◌, ◌<ℤ◌, if◌then◌else◌, refl, sym, ap, subst, ◌∙◌, arith, zero, suc, true≢false, length-set, get_or-set_same, get_or-set_other}
 use Rattle.std.specs.Prelude.{int_le}
 use Rattle.std.proofs.lemmas.Int.{by_lt_z}
 use Rattle.std.proofs.lemmas.List.Elements.{All-set}
 use Rattle.lift_poly.proofs.Ring.{linear, le_from_test}
-use Rattle.lift_grid.specs.Rectangle.{Spans}
-use Rattle.lift_grid.specs.Tree.{RejectData}
 use Rattle.lift_model.specs.Model.{is_goal}
 use Rattle.lift_model.specs.Links.{LinksData, position}
 use Rattle.corner_lift.specs.Case.{CaseData, IsCase, IsInside, number}
-use Rattle.corner_lift.specs.Certificate.{AreNumbers, IsLower}
+use Rattle.corner_lift.specs.Certificate.{AreNumbers}
 use Rattle.corner_lift.specs.Laws.{NumbersAreInRange}
 use Rattle.float_guess.specs.Part.{StandsAt, is_open, KeepsOthers}
 use Rattle.lower_cert.specs.Lowering.{Run, IsHighUnder}
@@ -18,7 +16,7 @@ use Rattle.lower_cert.specs.Holding.{lesser, holding, IsAboveAt, IsHighBeyond, A
 use Rattle.lower_cert.proofs.Means.{Premises, Place, stand, either_way, same_or_less, same_or_not}
 use Rattle.lower_cert.proofs.Exits.{lt_from_test}
 use Rattle.lower_cert.proofs.Sweeping.{is_same, same_is}
-use Rattle.lower_cert.proofs.Beginning.{IsOpen, of_open, open_of, keeps_both}
+use Rattle.lower_cert.proofs.Beginning.{of_open, open_of}
 use Rattle.lower_cert.proofs.Guess.{lessened, lessened-is, lessened_data, lessened_lower, less-under, less-shifted, less-above}
 
 -- ---- the ceiling with a state held

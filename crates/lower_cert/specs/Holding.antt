@@ -1,5 +1,5 @@
 -- Holding a state at a number while the others are lowered: what is known then of the lower vectors that have at most this number there.
-use Rattle.std.specs.Prelude.{◌≡◌, ◌≢◌, ◌==◌, ℕ, ◌+◌, ◌-◌, ◌^◌, ◌<◌, ◌≤◌, Bool, true, false, List, ℤ, pos, ◌≤ℤ◌, int_le, length, if◌then◌else◌}
+use Rattle.std.specs.Prelude.{◌≡◌, ◌≢◌, ◌==◌, ℕ, ◌+◌, ◌-◌, ◌^◌, ◌<◌, ◌≤◌, true, false, List, ℤ, pos, ◌≤ℤ◌, int_le, length, if◌then◌else◌}
 use Rattle.lift_grid.specs.Tree.{RejectData}
 use Rattle.lift_model.specs.Model.{is_goal}
 use Rattle.lift_model.specs.Links.{LinksData}

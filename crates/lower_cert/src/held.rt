@@ -18,7 +18,7 @@ use crate::descent::Descent;
 use crate::laws::vectors_are_lowered;
 use crate::part::{Part, flag_part, write_at};
 use crate::raise::within;
-use crate::steering::{Patience, Steering};
+use crate::steering::{DEEPEST, Patience, Steering};
 use crate::sweep::{turn, visit};
 use corner_lift::{Lifted, rows_at_corners};
 use float_guess::{Among, Ends, Extreme, HELD_STATES, Rule, most_met, worth_by};
@@ -39,14 +39,14 @@ const SETTLING: u32 = 8192;
 /// In place of a position where there is none.
 const NOWHERE: u32 = u32::MAX;
 
-/// A state of a part that is held, and where it stands, and where another one stands that is held while this one's number
-/// is searched.
+/// A state of a part that is held, and where it stands, and where others stand that are held while this one's number is
+/// searched, the last one first.
 #[derive(Clone, Copy)]
 struct Held {
     part: Part,
     position: u32,
     state: u32,
-    outer: u32,
+    outer: [u32; DEEPEST],
 }
 
 impl Held {
@@ -56,6 +56,16 @@ impl Held {
         ensures { result ≡ position - self.part.low }
     {
         (position - self.part.low) as usize
+    }
+
+    /// Whether a position is held.
+    fn has(self, position: u32) -> bool {
+        position == self.position || self.outer.contains(&position)
+    }
+
+    /// What is held while another one's number is searched.
+    fn with_outer(self) -> [u32; DEEPEST] {
+        [self.position, self.outer[0], self.outer[1]]
     }
 }
 
@@ -210,7 +220,7 @@ fn pass_beside(rows: &Lifted, lane: &mut [i64], work: &mut [u32], held: Held) ->
     let mut visits: u32 = 0;
     let mut fell = false;
     for position in held.part.low..held.part.high {
-        if position == held.position || position == held.outer || work[position as usize] == 0 {
+        if work[position as usize] == 0 || held.has(position) {
             continue;
         }
         visits = visits.saturating_add(1);
@@ -242,9 +252,54 @@ fn search_for(rows: &Lifted, lane: &[i64], held: Held, steering: Steering) -> Se
     search
 }
 
+/// Tries numbers of a held state, until its own is found or enough is: the others are lowered beside it by this method.
+macro_rules! search_by {
+    ($descent:ident, $lane:ident, $work:ident, $search:ident, $fall:ident) => {{
+        let held = $search.held;
+        for _ in 0..TRIES {
+            let Some(value) = $descent.next_number($search) else {
+                return true;
+            };
+            start_beside($descent.rows, $lane, $search, value);
+            flag_part($work, held.part);
+            let ended = $descent.$fall($lane, $work, held, &mut $search.steering);
+            match $descent.keep($lane, $work, $search, value, ended) {
+                Tried::More => {}
+                Tried::Enough => return true,
+                Tried::Slow => return false,
+            }
+        }
+        false
+    }};
+}
+
+/// Lowers the states of a part beside the held one, until that falls or none does, and where that takes long, by a search for
+/// the number of another one by this method.
+macro_rules! fall_or_hold {
+    ($descent:ident, $lane:ident, $work:ident, $held:ident, $steering:ident, $search:ident) => {{
+        let ended = $descent.fall_beside($lane, $work, $held, $steering);
+        if !ended.is_slow() || !$steering.may_nest() {
+            return ended;
+        }
+        let Some(other) = $descent.held_of($lane, $held.part, $held.with_outer()) else {
+            return ended;
+        };
+        let number = $lane[other.state as usize];
+        let mut search = search_for($descent.rows, $lane, other, $steering.inner(other.part, number));
+        let found = $descent.$search($lane, $work, &mut search);
+        restore($descent.rows, $lane, &search);
+        flag_part($work, other.part);
+        $steering.after(&search.steering, number);
+        if !found {
+            return Beside::Slow;
+        }
+        $descent.fall_alone($lane, $work, $held, $steering)
+    }};
+}
+
 impl Descent<'_> {
     /// A state of a part to be held, beside another one: one that is met often on a walk that stays there.
-    fn held_of(&self, lane: &[i64], part: Part, outer: u32) -> Option<Held>
+    fn held_of(&self, lane: &[i64], part: Part, outer: [u32; DEEPEST]) -> Option<Held>
         requires { part.high ≤ length self.now.rows.now.links.order }
         ensures part { IfSome result (λ held. held.part ≡ part) }
         ensures room { IfSome result (λ held. held.part.high ≤ held.part.low + HELD_STATES) }
@@ -256,7 +311,7 @@ impl Descent<'_> {
         let among = Among {
             low: part.low,
             high: part.high,
-            held: &[outer],
+            held: &outer,
         };
         let position = most_met(self.rows, RULE, lane, among)?;
         if position < part.low || part.high <= position {
@@ -309,7 +364,7 @@ impl Descent<'_> {
 
     /// The number of a held state that is worth to be tried before any that is less.
     fn end_of(&self, held: Held) -> i64 {
-        if held.outer == NOWHERE && held.state == self.rows.model().init() {
+        if held.outer[0] == NOWHERE && held.state == self.rows.model().init() {
             return self.limit.saturating_add(1).max(0);
         }
         0
@@ -361,10 +416,10 @@ impl Descent<'_> {
         ensures high { IsHighUnder self.now.rows.now.case run lane.new }
         ensures kept { KeepsOthers self.now.rows.now.case self.now.rows.now.links held.part.low held.part.high lane.old lane.new }
     {
-        if held.outer < held.part.low || held.part.high <= held.outer {
+        if held.outer[0] < held.part.low || held.part.high <= held.outer[0] {
             return lane[self.rows.model().init() as usize] <= self.limit;
         }
-        visit(self.rows, lane, work, held.outer, held.part.high)
+        visit(self.rows, lane, work, held.outer[0], held.part.high)
     }
 
     /// Keeps what came of a number: the others were lowered beside the held state, which had this number.
@@ -400,86 +455,8 @@ impl Descent<'_> {
         if enough { Tried::Enough } else { Tried::More }
     }
 
-    /// Holds a state at a number, beside another one that is held, while the others are lowered, and keeps what comes of it.
-    fn try_inner(
-        &self,
-        lane: &mut [i64],
-        work: &mut [u32],
-        search: &mut Search,
-        value: i64,
-    ) -> Tried
-        ghost run: { Run }
-        requires table { IsLiftedTo self.now.rows.now run.spans }
-        requires search { IsSearch self.now.rows.now.case self.now.rows.now.links run search.old }
-        requires beyond { IsHighBeyond self.now.rows.now.case self.now.rows.now.links run search.old.held.part.low search.old.held.part.high lane.old }
-        requires value { (pos 0 ≤ℤ value) × (value ≤ℤ pos (2 ^ self.now.rows.now.case.w)) }
-        requires work { search.old.held.part.high ≤ length work.old }
-        ensures held { search.new.held ≡ search.old.held }
-        ensures search { IsSearch self.now.rows.now.case self.now.rows.now.links run search.new }
-        ensures kept { KeepsOthers self.now.rows.now.case self.now.rows.now.links search.old.held.part.low search.old.held.part.high lane.old lane.new }
-    {
-        let held = search.held;
-        start_beside(self.rows, lane, search, value);
-        flag_part(work, held.part);
-        let ended = self.fall_beside(lane, work, held, &mut search.steering);
-        self.keep(lane, work, search, value, ended)
-    }
-
-    /// Tries numbers until that state's is found, or enough is. False: it took too long.
-    fn try_inner_numbers(&self, lane: &mut [i64], work: &mut [u32], search: &mut Search) -> bool
-        ghost run: { Run }
-        requires table { IsLiftedTo self.now.rows.now run.spans }
-        requires search { IsSearch self.now.rows.now.case self.now.rows.now.links run search.old }
-        requires beyond { IsHighBeyond self.now.rows.now.case self.now.rows.now.links run search.old.held.part.low search.old.held.part.high lane.old }
-        requires work { search.old.held.part.high ≤ length work.old }
-        ensures held { search.new.held ≡ search.old.held }
-        ensures search { IsSearch self.now.rows.now.case self.now.rows.now.links run search.new }
-        ensures kept { KeepsOthers self.now.rows.now.case self.now.rows.now.links search.old.held.part.low search.old.held.part.high lane.old lane.new }
-    {
-        for _ in 0..TRIES {
-            let Some(value) = self.next_number(search) else {
-                return true;
-            };
-            match self.try_inner(lane, work, search, value) {
-                Tried::More => {}
-                Tried::Enough => return true,
-                Tried::Slow => return false,
-            }
-        }
-        false
-    }
-
-    /// Lowers a part beside a held state by a search for the number of another one. False: there is none, or it took too long.
-    fn lower_inner(
-        &self,
-        lane: &mut [i64],
-        work: &mut [u32],
-        outer: Held,
-        steering: &mut Steering,
-    ) -> bool
-        ghost run: { Run }
-        requires can { CanLower self.now.rows.now run lane.old }
-        requires place { IsPlace self.now.rows.now.case self.now.rows.now.links outer }
-        requires work { outer.part.high ≤ length work.old }
-        ensures high { IsHighUnder self.now.rows.now.case run lane.new }
-        ensures kept { KeepsOthers self.now.rows.now.case self.now.rows.now.links outer.part.low outer.part.high lane.old lane.new }
-    {
-        let Some(held) = self.held_of(lane, outer.part, outer.position) else {
-            return false;
-        };
-        let number = lane[held.state as usize];
-        let steered = steering.inner(held.part, number);
-        let mut search = search_for(self.rows, lane, held, steered);
-        let found = self.try_inner_numbers(lane, work, &mut search);
-        restore(self.rows, lane, &search);
-        flag_part(work, held.part);
-        steering.after(&search.steering, number);
-        found
-    }
-
-    /// Lowers the states of a part beside the held one, until that falls or none does, holding another one too where that
-    /// takes long.
-    fn fall_or_hold(
+    /// Lowers the states of a part beside the held one, until that falls or none does, holding no other one.
+    fn fall_alone(
         &self,
         lane: &mut [i64],
         work: &mut [u32],
@@ -493,46 +470,46 @@ impl Descent<'_> {
         ensures high { IsHighUnder self.now.rows.now.case run lane.new }
         ensures kept { KeepsOthers self.now.rows.now.case self.now.rows.now.links held.part.low held.part.high lane.old lane.new }
     {
-        let ended = self.fall_beside(lane, work, held, steering);
-        if !ended.is_slow() || !steering.may_nest() {
-            return ended;
-        }
-        if !self.lower_inner(lane, work, held, steering) {
-            return Beside::Slow;
-        }
-        let mut rest = steering.patient();
-        let ended = self.fall_beside(lane, work, held, &mut rest);
-        steering.count_of(&rest);
+        let mut patient = steering.patient();
+        let ended = self.fall_beside(lane, work, held, &mut patient);
+        steering.count_of(&patient);
         ended
     }
 
-    /// Holds a state at a number while the others are lowered, and keeps what comes of it.
-    fn try_number(
+    /// Tries numbers of a state that is held beside three others, until its own is found or enough is. False: it took too long.
+    fn search_beside_three(&self, lane: &mut [i64], work: &mut [u32], search: &mut Search) -> bool
+        ghost run: { Run }
+        requires table { IsLiftedTo self.now.rows.now run.spans }
+        requires search { IsSearch self.now.rows.now.case self.now.rows.now.links run search.old }
+        requires beyond { IsHighBeyond self.now.rows.now.case self.now.rows.now.links run search.old.held.part.low search.old.held.part.high lane.old }
+        requires work { search.old.held.part.high ≤ length work.old }
+        ensures held { search.new.held ≡ search.old.held }
+        ensures search { IsSearch self.now.rows.now.case self.now.rows.now.links run search.new }
+        ensures kept { KeepsOthers self.now.rows.now.case self.now.rows.now.links search.old.held.part.low search.old.held.part.high lane.old lane.new }
+    {
+        search_by!(self, lane, work, search, fall_alone)
+    }
+
+    /// Lowers the states of a part beside three held ones, and one more where that takes long.
+    fn fall_beside_three(
         &self,
         lane: &mut [i64],
         work: &mut [u32],
-        search: &mut Search,
-        value: i64,
-    ) -> Tried
+        held: Held,
+        steering: &mut Steering,
+    ) -> Beside
         ghost run: { Run }
-        requires table { IsLiftedTo self.now.rows.now run.spans }
-        requires search { IsSearch self.now.rows.now.case self.now.rows.now.links run search.old }
-        requires beyond { IsHighBeyond self.now.rows.now.case self.now.rows.now.links run search.old.held.part.low search.old.held.part.high lane.old }
-        requires value { (pos 0 ≤ℤ value) × (value ≤ℤ pos (2 ^ self.now.rows.now.case.w)) }
-        requires work { search.old.held.part.high ≤ length work.old }
-        ensures held { search.new.held ≡ search.old.held }
-        ensures search { IsSearch self.now.rows.now.case self.now.rows.now.links run search.new }
-        ensures kept { KeepsOthers self.now.rows.now.case self.now.rows.now.links search.old.held.part.low search.old.held.part.high lane.old lane.new }
+        requires can { CanLower self.now.rows.now run lane.old }
+        requires place { IsPlace self.now.rows.now.case self.now.rows.now.links held }
+        requires work { held.part.high ≤ length work.old }
+        ensures high { IsHighUnder self.now.rows.now.case run lane.new }
+        ensures kept { KeepsOthers self.now.rows.now.case self.now.rows.now.links held.part.low held.part.high lane.old lane.new }
     {
-        let held = search.held;
-        start_beside(self.rows, lane, search, value);
-        flag_part(work, held.part);
-        let ended = self.fall_or_hold(lane, work, held, &mut search.steering);
-        self.keep(lane, work, search, value, ended)
+        fall_or_hold!(self, lane, work, held, steering, search_beside_three)
     }
 
-    /// Tries numbers until the held state's is found, or enough is. False: it took too long.
-    fn try_numbers(&self, lane: &mut [i64], work: &mut [u32], search: &mut Search) -> bool
+    /// Tries numbers of a state that is held beside two others.
+    fn search_beside_two(&self, lane: &mut [i64], work: &mut [u32], search: &mut Search) -> bool
         ghost run: { Run }
         requires table { IsLiftedTo self.now.rows.now run.spans }
         requires search { IsSearch self.now.rows.now.case self.now.rows.now.links run search.old }
@@ -542,17 +519,71 @@ impl Descent<'_> {
         ensures search { IsSearch self.now.rows.now.case self.now.rows.now.links run search.new }
         ensures kept { KeepsOthers self.now.rows.now.case self.now.rows.now.links search.old.held.part.low search.old.held.part.high lane.old lane.new }
     {
-        for _ in 0..TRIES {
-            let Some(value) = self.next_number(search) else {
-                return true;
-            };
-            match self.try_number(lane, work, search, value) {
-                Tried::More => {}
-                Tried::Enough => return true,
-                Tried::Slow => return false,
-            }
-        }
-        false
+        search_by!(self, lane, work, search, fall_beside_three)
+    }
+
+    /// Lowers the states of a part beside two held ones, and one more where that takes long.
+    fn fall_beside_two(
+        &self,
+        lane: &mut [i64],
+        work: &mut [u32],
+        held: Held,
+        steering: &mut Steering,
+    ) -> Beside
+        ghost run: { Run }
+        requires can { CanLower self.now.rows.now run lane.old }
+        requires place { IsPlace self.now.rows.now.case self.now.rows.now.links held }
+        requires work { held.part.high ≤ length work.old }
+        ensures high { IsHighUnder self.now.rows.now.case run lane.new }
+        ensures kept { KeepsOthers self.now.rows.now.case self.now.rows.now.links held.part.low held.part.high lane.old lane.new }
+    {
+        fall_or_hold!(self, lane, work, held, steering, search_beside_two)
+    }
+
+    /// Tries numbers of a state that is held beside another one.
+    fn search_beside_one(&self, lane: &mut [i64], work: &mut [u32], search: &mut Search) -> bool
+        ghost run: { Run }
+        requires table { IsLiftedTo self.now.rows.now run.spans }
+        requires search { IsSearch self.now.rows.now.case self.now.rows.now.links run search.old }
+        requires beyond { IsHighBeyond self.now.rows.now.case self.now.rows.now.links run search.old.held.part.low search.old.held.part.high lane.old }
+        requires work { search.old.held.part.high ≤ length work.old }
+        ensures held { search.new.held ≡ search.old.held }
+        ensures search { IsSearch self.now.rows.now.case self.now.rows.now.links run search.new }
+        ensures kept { KeepsOthers self.now.rows.now.case self.now.rows.now.links search.old.held.part.low search.old.held.part.high lane.old lane.new }
+    {
+        search_by!(self, lane, work, search, fall_beside_two)
+    }
+
+    /// Lowers the states of a part beside a held one, and one more where that takes long.
+    fn fall_beside_one(
+        &self,
+        lane: &mut [i64],
+        work: &mut [u32],
+        held: Held,
+        steering: &mut Steering,
+    ) -> Beside
+        ghost run: { Run }
+        requires can { CanLower self.now.rows.now run lane.old }
+        requires place { IsPlace self.now.rows.now.case self.now.rows.now.links held }
+        requires work { held.part.high ≤ length work.old }
+        ensures high { IsHighUnder self.now.rows.now.case run lane.new }
+        ensures kept { KeepsOthers self.now.rows.now.case self.now.rows.now.links held.part.low held.part.high lane.old lane.new }
+    {
+        fall_or_hold!(self, lane, work, held, steering, search_beside_one)
+    }
+
+    /// Tries numbers of a held state.
+    fn search_first(&self, lane: &mut [i64], work: &mut [u32], search: &mut Search) -> bool
+        ghost run: { Run }
+        requires table { IsLiftedTo self.now.rows.now run.spans }
+        requires search { IsSearch self.now.rows.now.case self.now.rows.now.links run search.old }
+        requires beyond { IsHighBeyond self.now.rows.now.case self.now.rows.now.links run search.old.held.part.low search.old.held.part.high lane.old }
+        requires work { search.old.held.part.high ≤ length work.old }
+        ensures held { search.new.held ≡ search.old.held }
+        ensures search { IsSearch self.now.rows.now.case self.now.rows.now.links run search.new }
+        ensures kept { KeepsOthers self.now.rows.now.case self.now.rows.now.links search.old.held.part.low search.old.held.part.high lane.old lane.new }
+    {
+        search_by!(self, lane, work, search, fall_beside_one)
     }
 
     /// Lowers a part by a search for the number of one of its states. False: there is none to be held, or it took too
@@ -570,12 +601,12 @@ impl Descent<'_> {
         requires part { (part.high ≤ length work.old) × (part.high ≤ length self.now.rows.now.links.order) }
         ensures { IsHighUnder self.now.rows.now.case run lane.new }
     {
-        let Some(held) = self.held_of(lane, part, NOWHERE) else {
+        let Some(held) = self.held_of(lane, part, [NOWHERE; DEEPEST]) else {
             return false;
         };
         let steering = Steering::of(patience, part, lane[held.state as usize]);
         let mut search = search_for(self.rows, lane, held, steering);
-        let found = self.try_numbers(lane, work, &mut search);
+        let found = self.search_first(lane, work, &mut search);
         restore(self.rows, lane, &search);
         flag_part(work, part);
         found && self.settle_within(lane, work, part, SETTLING)

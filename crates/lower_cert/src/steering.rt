@@ -13,8 +13,10 @@ const WIDER: i64 = 16;
 /// Where both moves are less together, the next number is found by halving.
 const FEW_MOVES: i64 = 16;
 
-/// A patient search takes no more visits than so many passes have.
-const PASSES: u32 = 8192;
+/// A patient search takes no more visits than so many passes have, and no more than so many.
+const PASSES: u32 = 65536;
+
+const VISITS: u32 = 1 << 23;
 
 /// A quick search takes so many passes for all numbers that were tried, and twice the square of how many these are.
 const QUICK_PASSES: u32 = 2;
@@ -24,6 +26,9 @@ const QUICK_PASSES: u32 = 2;
 const ALONE: u32 = 512;
 
 const FEWEST_ALONE: u32 = 8;
+
+/// Beside how many held states one more may be held.
+pub(crate) const DEEPEST: usize = 3;
 
 /// How long a search may take.
 #[derive(Clone, Copy)]
@@ -39,6 +44,14 @@ pub(crate) enum Patience {
 struct Move {
     number: i64,
     by: i64,
+}
+
+/// How it went to hold one more state: after how many visits beside a number that is done, and how far its number moved last
+/// time.
+#[derive(Clone, Copy)]
+struct Nest {
+    alone: u32,
+    way: i64,
 }
 
 /// How the next number is chosen. Nothing is promised of it.
@@ -64,10 +77,10 @@ pub(crate) struct Steering {
     visits: u32,
     /// How many states the part has.
     states: u32,
-    /// After how many visits beside a number another state is held too.
-    alone: u32,
-    /// How far the number of that one moved last time.
-    inner_way: i64,
+    /// How many other states are held.
+    depth: usize,
+    /// What is known of holding one more, beside so many.
+    nests: [Nest; DEEPEST],
 }
 
 impl Steering {
@@ -84,17 +97,32 @@ impl Steering {
             tries: 0,
             visits: 0,
             states: part.len(),
-            alone: ALONE.saturating_mul(part.len()),
-            inner_way: 0,
+            depth: 0,
+            nests: [Nest {
+                alone: ALONE.saturating_mul(part.len()),
+                way: 0,
+            }; DEEPEST],
+        }
+    }
+
+    /// What is known of holding one more state.
+    fn nest(&self) -> Nest {
+        match self.nests.get(self.depth) {
+            Some(nest) => *nest,
+            None => Nest {
+                alone: u32::MAX,
+                way: 0,
+            },
         }
     }
 
     /// For a state that is held beside another one, which was steered so far.
     pub(crate) fn inner(&self, part: Part, number: i64) -> Steering {
         Steering {
-            step: FIRST_STEP.max(self.inner_way / 2),
+            step: FIRST_STEP.max(self.nest().way / 2),
             visits: self.visits,
-            alone: u32::MAX,
+            depth: self.depth.saturating_add(1),
+            nests: self.nests,
             ..Steering::of(self.patience, part, number)
         }
     }
@@ -102,15 +130,20 @@ impl Steering {
     /// After a search for the number of another state, which had this number.
     pub(crate) fn after(&mut self, inner: &Steering, number: i64) {
         let fewest = FEWEST_ALONE.saturating_mul(self.states);
-        self.alone = inner.visits.saturating_sub(self.visits).max(fewest);
+        self.nests = inner.nests;
+        if let Some(nest) = self.nests.get_mut(self.depth) {
+            *nest = Nest {
+                alone: inner.visits.saturating_sub(self.visits).max(fewest),
+                way: number.saturating_sub(inner.above.number).max(0),
+            };
+        }
         self.visits = inner.visits;
-        self.inner_way = number.saturating_sub(inner.above.number).max(0);
     }
 
     /// The same, but that no other state is held.
     pub(crate) fn patient(&self) -> Steering {
         Steering {
-            alone: u32::MAX,
+            depth: DEEPEST,
             ..*self
         }
     }
@@ -124,7 +157,7 @@ impl Steering {
     pub(crate) fn may_nest(&self) -> bool {
         match self.patience {
             Patience::Quick => false,
-            Patience::Long => self.visits < PASSES.saturating_mul(self.states),
+            Patience::Long => self.depth < DEEPEST && self.visits < self.most_visits(),
         }
     }
 
@@ -133,20 +166,24 @@ impl Steering {
         self.visits = self.visits.saturating_add(visits);
     }
 
-    /// How many visits are left beside a number.
-    pub(crate) fn visits_left(&self) -> u32 {
-        let passes = match self.patience {
+    /// How many visits there may be for the numbers that were tried.
+    fn most_visits(&self) -> u32 {
+        match self.patience {
             Patience::Quick => self
                 .tries
                 .saturating_mul(self.tries)
                 .saturating_mul(2)
-                .saturating_add(QUICK_PASSES),
-            Patience::Long => PASSES,
-        };
-        passes
-            .saturating_mul(self.states)
+                .saturating_add(QUICK_PASSES)
+                .saturating_mul(self.states),
+            Patience::Long => PASSES.saturating_mul(self.states).min(VISITS),
+        }
+    }
+
+    /// How many visits are left beside a number.
+    pub(crate) fn visits_left(&self) -> u32 {
+        self.most_visits()
             .saturating_sub(self.visits)
-            .min(self.alone)
+            .min(self.nest().alone)
     }
 
     /// A number between those from which it falls and doesn't: by halving, or where a line through both moves comes to

@@ -1,4 +1,4 @@
-use Rattle.std.proofs.Common.{◌+◌, rules, SFits, w64, to_z, of_z, to_z-of_z, arith, subst, sym}
+use Rattle.std.proofs.Common.{rules, SFits, w64, to_z, of_z, to_z-of_z, arith, subst, sym}
 use Rattle.corner_lift.specs.Case.{number}
 use Rattle.lower_cert.specs.Holding.{IsAboveAt}
 use Rattle.lower_cert.proofs.Beginning.{keeps_both, keeps_wider}

@@ -1,9 +1,9 @@
-use Rattle.std.proofs.Common.{◌+◌, ◌∙◌, rules, SFits, w64, to_z, of_z, to_z-of_z, pos, ◌≤ℤ◌, ◌+ℤ◌, arith, refl, subst, sym}
+use Rattle.std.proofs.Common.{◌∙◌, rules, SFits, w64, to_z, of_z, to_z-of_z, pos, ◌≤ℤ◌, ◌+ℤ◌, arith, subst, sym}
 use Rattle.lift_poly.proofs.Ring.{linear}
 use Rattle.corner_lift.specs.Case.{number}
 use Rattle.lower_cert.specs.Holding.{holding, IsAboveAt}
 use Rattle.lower_cert.proofs.Beginning.{keeps_both, keeps_wider}
-use Rattle.lower_cert.proofs.Holding.{AreHighOn, high_more, started, begun_high}
+use Rattle.lower_cert.proofs.Holding.{high_more, started, begun_high}
 use Rattle.lower_cert.proofs.held.start_beside.Goals as goal
 
 pub write_at-requires-clause-value : goal.write_at-requires-clause-value
