@@ -25,6 +25,7 @@ from .wants import Wants
 from .write import Writer, check_numbers, kept_parameters, written_names
 
 __all__ = ['Fitted', 'Wants', 'fit']
+RENAMED = 'labels and names are written in plain ASCII'
 MOST_COMPARED = 3
 """Labels that are compared where no goal is asked for."""
 
@@ -111,7 +112,7 @@ class _Making:
         writer = Writer(source, self.names, self.kept)
         text = writer.text(between, [asked.safe.label] if asked.safe and between else [])
         for name in sorted(writer.renamed):
-            told.change('labels and names are written in plain ASCII', 'a name is a name', shown(name))
+            told.change(RENAMED, 'they mark the same states; ask for them as they are written here', shown(name))
         self._tell(spreader, asked)
         is_small = before is not None and len(source.states) + len(between) <= MOST_FITTED
         told.notes.append(
