@@ -14,7 +14,8 @@ NUMBER = re.compile(r'(?<![\w.^])[0-9]+(?:\.[0-9]+)?(?:[eE][+-]?[0-9]+)?')
 @lru_cache(maxsize=None)
 def _compiled(value: str) -> CodeType:
     """A value as Python's code, in which numbers are fractions, but for powers."""
-    return compile(NUMBER.sub(r'F("\g<0>")', value.strip()).replace('^', '**'), 'a value', 'eval')
+    code: CodeType = compile(NUMBER.sub(r'F("\g<0>")', value.strip()).replace('^', '**'), 'a value', 'eval')
+    return code
 
 
 def worth(value: str, valuation: Mapping[str, Fraction]) -> Fraction:

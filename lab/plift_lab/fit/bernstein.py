@@ -12,7 +12,7 @@ from fractions import Fraction
 from math import comb
 from typing import List, NamedTuple
 
-from .polynomials import Polynomial, total
+from .polynomials import UNIT, Polynomial, total
 
 
 class Toss(NamedTuple):
@@ -41,7 +41,7 @@ def coefficients(value: Polynomial, toss: Toss) -> List[Polynomial]:
 
 def _rescaled(powers: List[Polynomial], low: Fraction, high: Fraction) -> List[Polynomial]:
     """What stands beside each power of x, where p is low + (high - low) x."""
-    if (low, high) == (0, 1):
+    if (low, high) == UNIT:
         return powers
     return [
         total(

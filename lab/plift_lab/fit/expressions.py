@@ -232,11 +232,14 @@ def remainders(name: Callable[[bytes], int], prime: int) -> Numbers:
     def over(left: int, right: Number) -> int:
         return left * pow(int(right), prime - 2, prime) % prime
 
+    def constant(worth: int) -> Number:
+        return worth
+
     return Numbers(
         lambda above, below: above if below == 1 else over(above, below),
         name,
         lambda left, right: left * right % prime,
         over,
         lambda worth: worth % prime,
-        lambda worth: worth,
+        constant,
     )
