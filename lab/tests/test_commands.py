@@ -75,7 +75,19 @@ class Verdict(InFolder):
         status, told, _ = run('verdict', report)
         self.assertEqual(status, 40)
         self.assertIn('between 0.333333333 and 0.333333334', told)
+        self.assertIn('rounding is what is left: at a single point the two numbers are ', told)
         self.assertIn('neither more precision nor more depth', told)
+
+    def test_sides_of_different_scale(self) -> None:
+        """Nearly all depends on p, whose side is short: halving it is what helps, and --relative is advised."""
+        report, text = str(self.folder / 'a.report'), b'\n'.join(
+            [b'@type: DTMC', b'@parameters', b'p m', b'@model', b'state 0 init', b'1 : p', b'2 : 1-p']
+            + [b'state 1', b'3 : m', b'2 : 1-m', b'state 2', b'2 : 1', b'state 3 failed', b'3 : 1', b'']
+        )
+        words = ('--goal', 'failed', '--bound', '1/100', '--region', 'p=1e-4..1/50,m=1/2..1', '--report', report)
+        self.assertEqual(run('verify', self.file('m.drn', text), *words)[0], 0)
+        told = run('verdict', report)[1]
+        self.assertRegex(told, 'halving p .*, but the longest side is that of m: --relative, and then more depth')
 
 
 class Leaves(InFolder):
@@ -119,6 +131,14 @@ class Leaves(InFolder):
 
 
 class Verify(InFolder):
+    def test_bits_that_are_too_few(self) -> None:
+        words = ('bounds', RETRY, '--goal', 'lost', '--region', 'p=1/10..3/10,q=1/20..1/5', '--width', '0.0001%')
+        status, told, _ = run(*words, '--precision', '8')
+        self.assertEqual(status, 1)
+        self.assertRegex(told, r'sup: 8 bits round by 0\.0\d+ here, so no width below 0\.0\d+ can be had')
+        self.assertIn('a greater --precision rounds less (40 is the greatest)', told)
+        self.assertEqual(run(*words)[0], 0)
+
     def test_several_bounds(self) -> None:
         keep = str(self.folder / 'k')
         bounds = ('--bound', '1/40', '--bound', '1/2000', '--bound', '1')
