@@ -9,8 +9,8 @@
     models.py deep LAYERS WIDTH     layers of states with four choices each, on to the next layer or some layers back
     models.py component STATES      a chain in which nearly all states reach each other, from anywhere to anywhere
 
-Hardware that fails rarely, with a fault in a cycle with p and a repair with q. A mission ends, safe, after 10^M cycles on
-average; the goal is "lost". There are few states, and many steps:
+Hardware that fails rarely, with a fault in a cycle with p and a repair with q. A mission ends, safe, after 10^M cycles
+on average; the goal is "lost". There are few states, and many steps:
 
     models.py memory BITS M         a word that is scrubbed; a fault more than BITS loses it
     models.py disks COUNT SPARE M   an array of disks, rebuilt one by one; more than SPARE broken ones lose it
@@ -203,7 +203,8 @@ def component(count: int) -> str:
 
 
 def cycles(rows: list[Row], parameters: list[str]) -> str:
-    """A chain of these rows, each of which stays in its state with what is left of 1. Two ends follow: safe, and lost."""
+    """A chain of these rows, each of which stays in its state with what is left of 1. Two ends follow: safe, and
+    lost."""
     states: list[State] = []
     for here, row in enumerate(rows):
         stay = "1-(%s)" % "+".join("(%s)" % value for _, value in row)

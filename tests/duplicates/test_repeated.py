@@ -10,14 +10,21 @@ sys.dont_write_bytecode = True
 sys.path.insert(0, str(Path(__file__).resolve().parent))
 import repeated  # noqa: E402
 
+FEW = 15  # runs that two proofs may share besides what is known
+
 
 class Repeated(unittest.TestCase):
     """The repository, and what counts."""
 
     def test_nothing_new_is_repeated(self) -> None:
-        """Two files that share lines are known to share as many. (Where that is meant: repeated.py --write.)"""
+        """Two files that share lines are known to share as many. (Where that is meant: repeated.py --write.) A proof
+        can cite no lemma of a crate below, and a goal's answers resemble those of the next: a few lines may do so."""
         known = repeated.known()
-        new = {pair: count for pair, count in repeated.today().items() if count > known.get(pair, 0)}
+        new = {
+            pair: count
+            for pair, count in repeated.today().items()
+            if count > known.get(pair, 0) + (FEW if all("/proofs/" in name for name in pair) else 0)
+        }
         self.assertEqual(new, {}, "these share more runs of lines than is known: say it once, in a crate below both")
 
     def test_known_files_are_there(self) -> None:

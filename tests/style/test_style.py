@@ -11,6 +11,7 @@ from pathlib import Path
 TOP = Path(__file__).resolve().parents[2]
 # What mypy is asked in one call each: a folder's scripts, or packages of tools/. New folders belong here.
 STRICT = [
+    ["bench"],
     ["recheck"],
     ["tools"],
     ["tools/native"],
