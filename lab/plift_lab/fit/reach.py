@@ -10,8 +10,6 @@ import heapq
 from typing import Dict, Iterator, List, Sequence, Set, Tuple
 
 PRIME = 2**61 - 1
-MOST_WORK = 4_000_000
-"""Products in one elimination: where there would be more, it isn't done."""
 Chain = Sequence[Sequence[Tuple[int, int]]]
 """For each state its targets with their probabilities modulo the prime, none of which is 0."""
 
@@ -20,15 +18,27 @@ class TooDense(Exception):
     """An elimination would take too long."""
 
 
-def reach(chain: Chain, goal: Set[int]) -> List[int]:
+class Work:
+    """How many products may still be computed."""
+
+    def __init__(self, left: int) -> None:
+        self.left = left
+
+    def spend(self, products: int) -> None:
+        """Takes some of them."""
+        self.left -= products
+        if self.left < 0:
+            raise TooDense
+
+
+def reach(chain: Chain, goal: Set[int], work: Work) -> List[int]:
     """For each state how likely the goal is reached from it, modulo the prime."""
     worth = [0] * len(chain)
     for state in goal:
         worth[state] = 1
     hopeful = _hopeful(chain, goal)
-    work = MOST_WORK
     for component in _components(chain, hopeful):
-        work = _solve(chain, component, worth, work)
+        _solve(chain, component, worth, work)
     return worth
 
 
@@ -86,9 +96,9 @@ def _components(chain: Chain, inside: Set[int]) -> Iterator[List[int]]:
                     yield component
 
 
-def _solve(chain: Chain, component: List[int], worth: List[int], work: int) -> int:
+def _solve(chain: Chain, component: List[int], worth: List[int], work: Work) -> None:
     """Finds the worth of the states of a component, when that of all that it leads to is known. States are eliminated,
-    the one with the fewest neighbours first. Returns how much work is left."""
+    the one with the fewest neighbours first."""
     members = set(component)
     rows: Dict[int, Dict[int, int]] = {}
     known: Dict[int, int] = {}
@@ -133,9 +143,6 @@ def _solve(chain: Chain, component: List[int], worth: List[int], work: int) -> i
                 other[target] = (other.get(target, 0) + share * part) % PRIME
                 before[target].add(source)
             known[source] = (known[source] + share * known[state]) % PRIME
-            work -= len(row)
-        if work < 0:
-            raise TooDense
+            work.spend(len(row) + 1)
     for state in reversed(done):
         worth[state] = (known[state] + sum(share * worth[target] for target, share in rows[state].items())) % PRIME
-    return work

@@ -8,7 +8,7 @@ from typing import Dict, List, NamedTuple, Optional, Sequence, Set, Tuple
 
 from .expressions import Numbers, Symbols, read_symbols
 from .polynomials import UNIT, Box, Polynomial
-from .reach import PRIME, Chain, TooDense, reach
+from .reach import PRIME, Chain, TooDense, Work, reach
 from .refusal import Difference
 from .source import Names, Source
 from .told import counted
@@ -16,6 +16,8 @@ from .told import counted
 MOST_STATES, MOST_FITTED = 2_000, 20_000
 """Larger models aren't compared as a whole: as they were read, and as they were fitted."""
 FEW_STATES, MOST_VALUATIONS, FEW_VALUATIONS, MOST_TRIES = 200, 10, 3, 200
+MOST_WORK = 2**22
+"""Products that all eliminations take together: where there would be more, no further valuation is tried."""
 SEED = 1
 NOISE = 1e-9
 """What is above that by floating-point numbers is above 0."""
@@ -72,7 +74,7 @@ def compare(pair: Pair, asked: Sequence[Asked], box: Optional[Box]) -> str:
     """Compares reach in both, and says what was compared."""
     if not asked:
         return 'not tested: there is no label to be reached'
-    draw = random.Random(SEED)
+    draw, work = random.Random(SEED), Work(MOST_WORK)
     due = MOST_VALUATIONS if len(pair.before.rows) <= FEW_STATES else FEW_VALUATIONS
     count = 0
     try:
@@ -80,9 +82,10 @@ def compare(pair: Pair, asked: Sequence[Asked], box: Optional[Box]) -> str:
             valuation = _valuation(pair, box, draw) if count < due else None
             if valuation is None:
                 break
-            _compare(pair, asked, valuation, draw)
+            _compare(pair, asked, _Place(valuation, draw, work))
     except TooDense:
-        return TOO_DENSE
+        if not count:
+            return TOO_DENSE
     where = 'of the region' if box else 'from 0 to 1'
     if not count:
         about = 'not tested: no valuation %s was found at which all choices are distributions'
@@ -118,8 +121,17 @@ def _are_shares(model: Plain, valuation: Sequence[Fraction]) -> bool:
     return all(value.near(near) > NOISE or value.at(valuation) >= 0 for value in model.polynomials)
 
 
-def _compare(pair: Pair, asked: Sequence[Asked], valuation: List[Fraction], draw: random.Random) -> None:
+class _Place(NamedTuple):
+    """A valuation, by what choices are drawn there, and how much work there may be."""
+
+    valuation: List[Fraction]
+    draw: random.Random
+    work: Work
+
+
+def _compare(pair: Pair, asked: Sequence[Asked], at: _Place) -> None:
     """Compares reach at one valuation, for choices that are drawn."""
+    valuation, draw, work = at
     own = [valuation[place] for place in pair.parameters]
     if not _are_shares(pair.after, own):
         raise Difference('a value is below 0')
@@ -130,7 +142,7 @@ def _compare(pair: Pair, asked: Sequence[Asked], valuation: List[Fraction], draw
         _chain(pair.after, picked, pair.after.names.remainders(own, PRIME)),
     )
     for one in asked:
-        before, after = (reach(_kept(chains[side], one, side), one.goals[side]) for side in (0, 1))
+        before, after = (reach(_kept(chains[side], one, side), one.goals[side], work) for side in (0, 1))
         for place, old in pair.places.items():
             if before[old] != after[place]:
                 raise Difference('reach of %s from state %d' % (one.name, place))
