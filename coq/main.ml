@@ -80,9 +80,11 @@ let hint polys =
     Table.add places polys p; p
 
 let named fault = "not sound: " ^ (try Faults.name !number !whole fault with _ -> "no place or cause was found")
+external end_where_memory_is_short : unit -> unit = "coq_check_memory" [@@noalloc]
 let refuse status note = (try prerr_endline note with Sys_error _ -> ()); exit status
 
 let () =
+  end_where_memory_is_short ();
   room 100;
   (match Sys.argv with
    | [| _ |] -> set_binary_mode_in stdin true

@@ -18,7 +18,7 @@ import sys
 import tempfile
 import unittest
 from pathlib import Path
-from typing import Any, Dict, Iterator, List, Tuple
+from typing import Any, Dict, Iterator, List, Set, Tuple
 
 sys.dont_write_bytecode = True
 TOP = Path(__file__).resolve().parents[2]
@@ -210,6 +210,16 @@ class Ends(CoqCase):
         )
         self.assertGreater(len(many), 20 * len(few))
         self.assertLess(peak(many), peak(few) + 2 * 10**6)
+
+    def test_want_of_memory(self) -> None:
+        text = wide_row(20000)
+        statuses: Set[int] = set()
+        for room in range(10000, 30000, 2000):
+            said = WORKED.asked(["sh", "-c", f"ulimit -v {room}; exec {CHECKER}"], text)
+            statuses.add(said.status)
+            if said.status == 8:
+                self.assertEqual(said, WORKED.Answer(8, b"", b"out of memory\n"))
+        self.assertTrue({8, 1} <= statuses <= {8, 1, 127}, statuses)
 
     def test_stack_does_not_grow_with_the_states(self) -> None:
         text = wide_row(40000)

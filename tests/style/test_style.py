@@ -17,6 +17,7 @@ STRICT = [
     ["tools/native"],
     ["-p", "hints", "-p", "drawing"],
     ["tests/checkers"],
+    ["tests/coq"],
     ["tests/definitions"],
     ["tests/duplicates"],
     ["tests/long"],
