@@ -273,10 +273,10 @@ class Texts(unittest.TestCase):
         for _ in range(400):
             text = bytearray(draw.choice(texts))
             for _ in range(draw.randint(1, 4)):
-                place = draw.randrange(len(text))
+                place = draw.randrange(len(text) + 1)
                 kind = draw.randrange(4)
                 if kind == 0:
-                    text[place] = draw.randrange(256)
+                    text[place : place + 1] = bytes([draw.randrange(256)])
                 elif kind == 1:
                     text[place:place] = draw.choice(
                         [b'^', b'(', b'"', b'[', b'0', b'\n', b'@', b'p', b' ', b'/', b'e9']
