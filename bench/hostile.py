@@ -338,6 +338,122 @@ def fair_walk_3000_from_above() -> str:
     return walking(3000)
 
 
+# ---- large components of other shapes
+
+
+def near_half(bound: str, precision: int, goal: str = "won") -> str:
+    """The words of a run of verify where p is about a half."""
+    return f"verify --goal {goal} --bound {bound} --precision {precision} --region 49/100<=p<=51/100"
+
+
+def spent(budget: int) -> str:
+    """The words of a run of cost there, at precision 40."""
+    what = f"--goal done --reward spent --budget {budget} --cap 1000000000"
+    return f"cost {what} --precision 40 --region 49/100<=p<=51/100"
+
+
+@kind(near_half("1", 40))
+def expander_400() -> str:
+    """400 states that each lead to the next one and to one by chance, and leak 1 in 10^9, at precision 40"""
+    return models.expander(400, 9)
+
+
+@kind(near_half("0", 40))
+def expander_400_from_above() -> str:
+    """the same, with a bound of 0"""
+    return models.expander(400, 9)
+
+
+@kind(near_half("1", 40))
+def expander_700() -> str:
+    """700 such states"""
+    return models.expander(700, 9)
+
+
+@kind(near_half("0", 40))
+def expander_700_from_above() -> str:
+    """the same, with a bound of 0"""
+    return models.expander(700, 9)
+
+
+@kind(near_half("1", 40))
+def chooser_100() -> str:
+    """100 states with two such choices each"""
+    return models.chooser(100, 9)
+
+
+@kind(near_half("0", 24))
+def chooser_100_from_above() -> str:
+    """the same, with a bound of 0, at precision 24"""
+    return models.chooser(100, 9)
+
+
+@kind(near_half("0", 24))
+def chooser_400_from_above() -> str:
+    """400 of them"""
+    return models.chooser(400, 9)
+
+
+@kind(near_half("1", 40))
+def plane_20() -> str:
+    """a walk to and fro on 20 by 20 places, at precision 40"""
+    return models.plane(20)
+
+
+@kind(near_half("0", 40))
+def plane_20_from_above() -> str:
+    """the same, with a bound of 0"""
+    return models.plane(20)
+
+
+@kind(near_half("1", 40))
+def plane_60() -> str:
+    """a walk to and fro on 60 by 60 places"""
+    return models.plane(60)
+
+
+@kind(near_half("0", 40))
+def plane_60_from_above() -> str:
+    """the same, with a bound of 0"""
+    return models.plane(60)
+
+
+@kind(near_half("1", 40))
+def blocks_1000() -> str:
+    """1,000 components of four states, one behind the other, at precision 40"""
+    return models.blocks(1000)
+
+
+@kind(near_half("0", 40))
+def blocks_1000_from_above() -> str:
+    """the same, with a bound of 0"""
+    return models.blocks(1000)
+
+
+@kind(near_half("1", 40))
+def blocks_10000() -> str:
+    """10,000 of them"""
+    return models.blocks(10000)
+
+
+@kind(near_half("1/2", 24, "done") + ",2/5<=q<=3/5")
+def deep_layers() -> str:
+    """a decision process of 50 layers of 20 states, with four choices on to the next layer and back"""
+    return models.deep(50, 20)
+
+
+@kind(spent(1000000000))
+def spender_300() -> str:
+    """costs of 300 states by chance, which lead anywhere, and of which three leak 1 in 10^4"""
+    return models.spender(300, 4)
+
+
+@kind(spent(1000000000))
+def spender_1000() -> str:
+    """the same of 1,000 states, of which ten leak"""
+    return models.spender(1000, 4)
+
+
 # ---- hardware that fails rarely: few states and very many steps
 
 

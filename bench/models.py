@@ -8,6 +8,11 @@
     models.py mixed STATES          rows over four parameters, to three states above, one below and a sink
     models.py deep LAYERS WIDTH     layers of states with four choices each, on to the next layer or some layers back
     models.py component STATES      a chain in which nearly all states reach each other, from anywhere to anywhere
+    models.py expander STATES L     each state leads to the next one and to one by chance, and leaks 1 in 10^L
+    models.py chooser STATES L      a decision process: the same, with two such choices in each state
+    models.py plane SIDE            a walk to and fro on a square, across with p; it ends in two of the corners
+    models.py blocks COUNT          components of four states each, one behind the other
+    models.py spender STATES L      an expander whose states cost what chance says; one in a hundred leaks 1 in 10^L
 
 Hardware that fails rarely, with a fault in a cycle with p and a repair with q. A mission ends, safe, after 10^M cycles
 on average; the goal is "lost". There are few states, and many steps:
@@ -59,11 +64,14 @@ class Job:
         return ["verify", "--goal", self.goal, "--bound", self.bound] + self.options()
 
 
-def text(kind: str, parameters: list[str], states: list[State]) -> str:
-    """The text of a model: for each state its labels, and its choices as lists of (target, value)."""
+def text(kind: str, parameters: list[str], states: list[State], reward: str = "") -> str:
+    """The text of a model: for each state its labels, and its choices as lists of (target, value). Where there is a
+    reward, the first label of each state is what it brings, in brackets."""
     lines = ["@type: " + kind]
     if parameters:
         lines += ["@parameters", " ".join(parameters)]
+    if reward:
+        lines += ["@reward_models", reward]
     lines.append("@model")
     for number, (labels, choices) in enumerate(states):
         lines.append(" ".join(["state", str(number)] + labels))
@@ -199,6 +207,79 @@ def component(count: int) -> str:
     return text("DTMC", ["p", "q"], states)
 
 
+def spread(count: int, leak: int, choices: int) -> list[State]:
+    """States that lead to the next one and to one by chance, by each of so many choices; what leaks is won or lost in
+    equal parts."""
+    draw = random.Random(1).randrange
+    share = "1e-%d" % leak
+    states: list[State] = []
+    for here in range(count):
+        rows = []
+        for choice in range(choices):
+            near = draw(count) if choice else (here + 1) % count
+            ends = [(near, "p*(1-%s)" % share), (draw(count), "(1-p)*(1-%s)" % share)]
+            rows.append(row_of([*ends, (count, share + "/2"), (count + 1, share + "/2")]))
+        states.append((["init"] if here == 0 else [], rows))
+    states.append((["won"], [[(count, "1")]]))
+    states.append(([], [[(count + 1, "1")]]))
+    return states
+
+
+def expander(count: int, leak: int) -> str:
+    """The goal is "won"; on the way from any state to any other one are few steps, and to an end very many."""
+    return text("DTMC", ["p"], spread(count, leak, 1))
+
+
+def chooser(count: int, leak: int) -> str:
+    """The second choice leads to two states by chance."""
+    return text("MDP", ["p"], spread(count, leak, 2))
+
+
+def plane(side: int) -> str:
+    """From the middle; a step over the edge stays. The first corner is lost, and the last one the goal."""
+    states: list[State] = []
+    for place in range(side * side):
+        across, up = place % side, place // side
+        labels = ["init"] if place == side // 2 * (side + 1) else ["won"] if place == side * side - 1 else []
+        if place in (0, side * side - 1):
+            states.append((labels, [[(place, "1")]]))
+            continue
+        ways = [(across + 1, up, "p"), (across - 1, up, "p"), (across, up + 1, "(1-p)"), (across, up - 1, "(1-p)")]
+        ends = [(y * side + x if 0 <= x < side and 0 <= y < side else place, way + "/2") for x, y, way in ways]
+        states.append((labels, [row_of(ends)]))
+    return text("DTMC", ["p"], states)
+
+
+def blocks(count: int) -> str:
+    """Each component is a ring with shortcuts, and its last state leaves it twice in a thousand; one block in so many
+    is lost with p."""
+    won, lost = 4 * count, 4 * count + 1
+    states: list[State] = []
+    for first in range(0, won, 4):
+        rows: list[Row] = [[(first + step + 1, "p"), (first + (step + 2) % 4, "1-p")] for step in range(3)]
+        rows[2] = row_of(rows[2])
+        rows.append(row_of([(first, "499/500"), (first + 4, "(1-p/%d)/500" % count), (lost, "p/%d" % (500 * count))]))
+        states += [(["init"] if first + step == 0 else [], [row]) for step, row in enumerate(rows)]
+    states.append((["won"], [[(won, "1")]]))
+    states.append(([], [[(lost, "1")]]))
+    return text("DTMC", ["p"], states)
+
+
+def spender(count: int, leak: int) -> str:
+    """Three states in twenty cost up to 1,000; what leaks is "done"."""
+    draw = random.Random(1).randrange
+    share = "1e-%d" % leak
+    states: list[State] = []
+    for here in range(count):
+        cost = draw(1000) if draw(20) < 3 else 0
+        on = "*(1-%s)" % share if here % 100 == 0 else ""
+        ends = [((here + 1) % count, "p" + on), (draw(count), "(1-p)" + on)]
+        row = row_of(ends + ([(count, share)] if on else []))
+        states.append((["[%d]" % cost] + (["init"] if here == 0 else []), [row]))
+    states.append((["[0]", "done"], [[(count, "1")]]))
+    return text("DTMC", ["p"], states, "spent")
+
+
 # ---- hardware that fails rarely
 
 
@@ -308,7 +389,9 @@ RARE: tuple[Callable[..., str], ...] = (memory, disks, watchdog, ring, bus, spar
 
 PLAIN: tuple[Callable[..., str], ...] = (relay, robot, walk, dice, mixed, deep, component)
 
-FAMILIES: dict[str, Callable[..., str]] = {family.__name__: family for family in (*PLAIN, *RARE)}
+SPREAD: tuple[Callable[..., str], ...] = (expander, chooser, plane, blocks, spender)
+
+FAMILIES: dict[str, Callable[..., str]] = {family.__name__: family for family in (*PLAIN, *SPREAD, *RARE)}
 
 if __name__ == "__main__":
     if len(sys.argv) < 3 or sys.argv[1] not in FAMILIES:

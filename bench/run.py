@@ -1,9 +1,9 @@
 #!/usr/bin/env python3
-"""Measures verify and check on models of growing size, depth and precision, and prints tables.
+"""Measures verify and check on models of growing size, depth and precision, and prints a table with tabs.
 
     run.py [--bin PATH] [--limit SECONDS] [--only WORD] [--write]
 
-With --write the tables also replace those of docs/PERFORMANCE.md. It takes less than a minute.
+With --write the table also replaces figures.tsv, and docs/PERFORMANCE.md gets what is made of it (figures.py).
 """
 
 from __future__ import annotations
@@ -16,12 +16,15 @@ import subprocess
 import sys
 from typing import Optional
 
+import figures
 import measure
 import models
 from models import Job
 
-PAGE = os.path.join(measure.TOP, "docs", "PERFORMANCE.md")
-BEGIN, END = "<!-- tables: begin -->", "<!-- tables: end -->"
+DATA = figures.HERE / "figures.tsv"
+COLUMNS = (
+    "series,model,states,depth,precision,rectangles,verify seconds,verify MB,report bytes,check seconds,check MB,note"
+)
 
 
 def decimals(number: float) -> str:
@@ -98,36 +101,27 @@ def count_lines(path: str, *fronts: bytes) -> int:
         return sum(line.startswith(fronts) for line in file)
 
 
-def shown(run: measure.Run) -> str:
-    """Two cells of a table: seconds of the processor, and MB at the peak; that of a run that was stopped is empty."""
-    return "> %d | " % run.seconds if run.stopped else "%.3f | %.0f" % (run.seconds, run.megabytes)
+def shown(run: measure.Run) -> list[str]:
+    """Two cells: seconds of the processor, and MB at the peak; that of a run that was stopped is empty."""
+    return ["> %d" % run.seconds, ""] if run.stopped else ["%.3f" % run.seconds, "%.0f" % run.megabytes]
 
 
-def row(job: Job, folder: str, program: str, limit: int) -> str:
-    """One line of a table."""
+def row(job: Job, folder: str, program: str, limit: int) -> list[str]:
+    """The cells of a line, from the model on."""
     source, report, told = (os.path.join(folder, name) for name in ("model", "report", "told"))
     write_model(job, source, program)
-    states = count_lines(source, b"state ")
-    front = "| %s | %d | %d | %d |" % (job.name(), states, job.depth, job.precision)
+    front = [job.name(), str(count_lines(source, b"state ")), str(job.depth), str(job.precision)]
     verify = measure.least([program] + job.verify(), source, report, limit)
     if verify.status != 0:
-        return front + " | %s | | | |%s" % (
-            shown(verify),
-            "" if verify.stopped else " status %d: %s" % (verify.status, verify.note),
-        )
-    size = os.path.getsize(report)
+        return [*front, "", *shown(verify), "", "", "", "" if verify.stopped else verify.note]
     leaves = [count_lines(report, word) for word in (b"accept", b"reject", b"unknown")]
-    nodes = sum(leaves) + count_lines(report, b"split")
+    size, nodes = os.path.getsize(report), sum(leaves) + count_lines(report, b"split")
     check = measure.least([program, "check"], report, told, limit)
-    told_of = "sound accept %d reject %d unknown %d" % tuple(leaves)
     with open(told) as file:
         answer = file.read().strip()
-    wrong = "" if check.stopped or answer == told_of or size > 1 << 26 else " check says: " + (answer or check.note)
-    return front + " %d | %s | %d | %s |%s" % (nodes, shown(verify), size, shown(check), wrong)
-
-
-HEADER = """| Model | States | Depth | Precision | Rectangles | verify: seconds | MB | Bytes of report | check: seconds | MB |
-|---|---|---|---|---|---|---|---|---|---|"""
+    is_so = check.stopped or answer == "sound accept %d reject %d unknown %d" % tuple(leaves)
+    note = "" if is_so else "check says: " + (answer or check.note)
+    return [*front, str(nodes), *shown(verify), str(size), *shown(check), note]
 
 
 def processor() -> str:
@@ -139,43 +133,31 @@ def processor() -> str:
     return platform.machine()
 
 
-def tables(program: str, limit: int, only: Optional[str]) -> str:
-    """The lines of the page, printed as they come."""
+def table(program: str, limit: int, only: Optional[str]) -> str:
+    """The lines of the table, printed as they come, and a last one of the machine."""
     loads = [os.getloadavg()[0]]
     lines = []
 
-    def say(line: str) -> None:
-        """Prints a line, and keeps it for the page."""
-        print(line, flush=True)
-        lines.append(line)
+    def say(*cells: str) -> None:
+        """Prints a line, and keeps it."""
+        print(*cells, sep="\t", flush=True)
+        lines.append("\t".join(cells) + "\n")
 
+    say(*COLUMNS.split(","))
     with measure.scratch() as folder:
         for name, jobs in SERIES.items():
-            if only and only != name:
-                continue
-            say("Growing %s:\n\n%s" % (name, HEADER))
-            for job in jobs:
-                say(row(job, folder, program, limit))
-            say("")
+            for job in jobs if only in (None, name) else []:
+                say(name, *row(job, folder, program, limit))
     loads.append(os.getloadavg()[0])
     say(
-        "Measured on %s, %s, %d processors. Processes at work besides: about %.1f at the beginning and %.1f at the end."
+        "# Measured on %s, %s, %d processors. Processes at work besides: about %.1f at the beginning and %.1f at the end."
         % (datetime.date.today().isoformat(), processor(), os.cpu_count() or 1, loads[0], max(loads[1] - 1, 0))
     )
-    return "\n".join(lines) + "\n"
-
-
-def write_page(text: str) -> None:
-    """Puts the tables between the two marks of the page, in the place of those that are there."""
-    with open(PAGE) as file:
-        before, rest = file.read().split(BEGIN)
-    after = rest.split(END)[1]
-    with open(PAGE, "w") as file:
-        file.write(before + BEGIN + "\n\n" + text + "\n" + END + after)
+    return "".join(lines)
 
 
 def main() -> None:
-    """Prints the tables that are asked for, and writes them to the page with --write."""
+    """Prints the table that is asked for, and writes it with --write."""
     parser = argparse.ArgumentParser(description=__doc__, formatter_class=argparse.RawDescriptionHelpFormatter)
     parser.add_argument("--bin")
     parser.add_argument("--limit", type=int, default=60)
@@ -183,10 +165,11 @@ def main() -> None:
     parser.add_argument("--write", action="store_true")
     asked = parser.parse_args()
     if asked.write and asked.only:
-        sys.exit("--write needs all tables")
-    text = tables(measure.program(asked.bin), asked.limit, asked.only)
+        sys.exit("--write needs all of it")
+    text = table(measure.program(asked.bin), asked.limit, asked.only)
     if asked.write:
-        write_page(text)
+        DATA.write_text(text, encoding="utf-8")
+        figures.main([])
 
 
 if __name__ == "__main__":

@@ -120,7 +120,9 @@ impl Part<'_> {
     {
         match way {
             Way::Elimination | Way::MovedElimination | Way::RoundedElimination => {
-                self.eliminate(lane, means, noted) || self.eliminate_rows(lane, noted)
+                self.eliminate(lane, means, noted)
+                    || self.eliminate_rows(lane, noted)
+                    || self.solve_policies(lane, noted)
             }
             Way::FirstElimination => self.eliminate_once(lane, means, noted),
             Way::Sweeps(most) => self.approach(lane, means, most) || self.take_most(lane),

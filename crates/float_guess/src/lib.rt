@@ -5,9 +5,11 @@
 mod eliminate;
 mod floats;
 mod guess;
+mod krylov;
 mod met;
 mod notes;
 mod part;
+mod policy;
 mod rule;
 mod sparse;
 mod step;

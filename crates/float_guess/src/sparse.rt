@@ -32,10 +32,10 @@ const BETTER_OF_A_UNIT: f64 = 0.0009765625;
 const BETTER: f64 = 0.00000000000001;
 
 /// How many numbers of corners a mark tells apart.
-const CORNERS: u32 = 16;
+pub(crate) const CORNERS: u32 = 16;
 
 /// The mark of a state that is cut off, whichever choice and corner count.
-const CUT_OFF: u32 = (1 << 28) - 1;
+pub(crate) const CUT_OFF: u32 = (1 << 28) - 1;
 
 /// What is found anew of a state.
 #[derive(Clone, Copy)]
@@ -67,9 +67,9 @@ struct Entry {
 
 /// What leaves the part, and what that is worth with what is added on the way.
 #[derive(Clone, Copy)]
-struct Leaving {
-    weight: f64,
-    gain: f64,
+pub(crate) struct Leaving {
+    pub(crate) weight: f64,
+    pub(crate) gain: f64,
 }
 
 /// The rows of the states that were put in, and the one that is being made. States are counted from the part's first.
@@ -87,19 +87,19 @@ struct Rows {
 
 impl Leaving {
     /// Nothing.
-    const NONE: Leaving = Leaving {
+    pub(crate) const NONE: Leaving = Leaving {
         weight: 0.0,
         gain: 0.0,
     };
 
     /// All of it, for what is worth the most.
-    const MOST: Leaving = Leaving {
+    pub(crate) const MOST: Leaving = Leaving {
         weight: 1.0,
         gain: 1.0,
     };
 
     /// With so much more.
-    fn with(self, weight: f64, gain: f64) -> Leaving {
+    pub(crate) fn with(self, weight: f64, gain: f64) -> Leaving {
         Leaving {
             weight: self.weight + weight,
             gain: self.gain + gain,
@@ -376,7 +376,7 @@ impl Part<'_> {
 
     /// Marks anew which choice and corner of each state count, and tells whether one has another mark than it had. Where
     /// choices and corners are for opposite ends, choices wait until the corners of those that count stay.
-    fn mark_anew(&self, lane: &[i64], noted: &mut [u32], is_first: bool) -> bool
+    pub(crate) fn mark_anew(&self, lane: &[i64], noted: &mut [u32], is_first: bool) -> bool
         requires links { AreLinks self.now.case.now.model self.now.links.now }
     {
         if is_first {

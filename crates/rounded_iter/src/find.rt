@@ -19,6 +19,10 @@ const LARGE_PATIENCE: u32 = 4;
 /// As many passes are made at first as there are numbers, where these are no more: no state rises more often.
 const FEW_NUMBERS: i64 = 1024;
 
+/// How many are made from 0 before the first guess by sweeps: a sweep takes as long as several passes, and less than some
+/// fifteen sweeps don't do.
+const SWEEP_PATIENCE: u32 = 96;
+
 /// How many times as many are made each time that a guess fails.
 const PATIENCE_STEP: u32 = 64;
 
@@ -36,8 +40,8 @@ const GUESSES: u32 = 3;
 
 impl Table<'_, '_> {
     /// Finds the least bound where that takes long, and tells whether the initial state's number in it is
-    /// within the limit. False: it is above it in every bound. Where the first passes were few, for the sake of a guess by
-    /// elimination, and none did, as many are made as elsewhere before guesses by sweeps.
+    /// within the limit. False: it is above it in every bound. Where no guess by elimination does, nor a state that is held,
+    /// more passes are made before guesses by sweeps.
     fn find_slow(&self, lane: &mut [i64], flags: &mut [u32], noted: &mut [u32]) -> bool
         ghost spans: { Spans }
         requires { CanConfirm self.now spans lane.old flags.old noted.old }
@@ -49,10 +53,8 @@ impl Table<'_, '_> {
         if let Some(found) = self.rise_held_from_zero(lane, flags, false) {
             return found;
         }
-        if self.first_patience() < FIRST_PATIENCE {
-            if let Some(found) = self.rise_from_zero(lane, flags, Some(FIRST_PATIENCE)) {
-                return found;
-            }
+        if let Some(found) = self.rise_from_zero(lane, flags, Some(SWEEP_PATIENCE)) {
+            return found;
         }
         let mut patience = FIRST_PATIENCE;
         for _ in 0..GUESSES {

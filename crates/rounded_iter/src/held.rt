@@ -514,7 +514,8 @@ impl Table<'_, '_> {
         self.rise(lane, flags, Some(LAST_PASSES))
     }
 
-    /// The same, from 0.
+    /// The same, from 0. Where a component is too large, the vector stays: a further guess begins with the choices and corners
+    /// that count by it.
     pub(crate) fn rise_held_from_zero(
         &self,
         lane: &mut [i64],
@@ -522,10 +523,14 @@ impl Table<'_, '_> {
         quick: bool,
     ) -> Option<bool>
         ghost spans: { Spans }
-        requires { CanRise self.now spans lane.old flags.old }
+        requires can { CanRise self.now spans lane.old flags.old }
+        requires guess { IsGuess self.now.rule self.now.case lane.old }
         ensures found { IfSome result (λ found. IsFound self.now spans lane.new found) }
         ensures guess { IsGuess self.now.rule self.now.case lane.new }
     {
+        if !self.has_no_larger(HELD_STATES as u32) {
+            return None;
+        }
         self.start(lane);
         self.rise_held(lane, flags, quick)
     }
