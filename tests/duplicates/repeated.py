@@ -1,11 +1,13 @@
 #!/usr/bin/env python3
-"""Finds lines of code, definitions and proofs that stand in two places:
+"""Finds lines of code, definitions, proofs and scripts that stand in two places:
 
-    tests/duplicates/repeated.py           lists the places that two files share, the longest first
-    tests/duplicates/repeated.py --write   writes the file `known` anew: what is repeated today
+    tests/duplicates/repeated.py            lists the places that two files share, the longest first
+    tests/duplicates/repeated.py --tighten  takes off the file `known` what is repeated no more
+    tests/duplicates/repeated.py --write    writes it anew: what is repeated today
 
 Lines are compared as they stand, without blanks around them; blank lines, comments, imports and lines of brackets alone
-aren't counted. A run of LONG such lines or more that stands twice is a repetition.
+aren't counted. A run of so many such lines or more that stands twice is a repetition: LONG in the crates, LONG_PYTHON
+in scripts. Lines of `known` that begin with `#` say why something stands twice.
 """
 
 from __future__ import annotations
@@ -18,8 +20,10 @@ from typing import Dict, Iterator, List, Tuple
 
 TOP = Path(__file__).resolve().parents[2]
 KNOWN = Path(__file__).resolve().parent / "known"
-LONG = 10
+LONG, LONG_PYTHON = 10, 6
 PASSED_OVER = re.compile(r"\s*(//.*|--.*|(pub )?(ghost )?(use|import|open|mod)\b.*|[][(){};,>| ]*)$")
+PASSED_OVER_IN_PYTHON = re.compile(r"\s*(#.*|(from|import)\b.*|\"\"\".*|[][(){}:;,> ]*)$")
+SCRIPTS = ("bench", "lab", "recheck", "tests", "tiles", "tools")  # where Python stands
 
 Place = Tuple[str, int]  # a file, and the number of a line that counts
 Pair = Tuple[str, str]
@@ -31,13 +35,20 @@ def sources() -> Iterator[Path]:
         yield from sorted(TOP.glob(f"crates/*/{pattern}"))
 
 
+def scripts() -> Iterator[Path]:
+    """The files with Python."""
+    for folder in SCRIPTS:
+        yield from sorted((TOP / folder).rglob("*.py"))
+
+
 def lines_of(path: Path) -> List[str]:
     """The lines of a file that count."""
     lines = path.read_text(encoding="utf-8").splitlines()
-    return [line.strip() for line in lines if not PASSED_OVER.match(line)]
+    passed_over = PASSED_OVER_IN_PYTHON if path.suffix == ".py" else PASSED_OVER
+    return [line.strip() for line in lines if not passed_over.match(line)]
 
 
-def repetitions(files: Dict[str, List[str]], long: int = LONG) -> Dict[Pair, int]:
+def repetitions(files: Dict[str, List[str]], long: int) -> Dict[Pair, int]:
     """For each two files (or a file with itself) how many lines begin a run of so many that stands in both."""
     places: Dict[Tuple[str, ...], List[Place]] = defaultdict(list)
     for name, lines in files.items():
@@ -52,13 +63,20 @@ def repetitions(files: Dict[str, List[str]], long: int = LONG) -> Dict[Pair, int
 
 def today() -> Dict[Pair, int]:
     """The repetitions of the repository."""
-    return repetitions({str(path.relative_to(TOP)): lines_of(path) for path in sources()})
+    found = repetitions({str(path.relative_to(TOP)): lines_of(path) for path in sources()}, LONG)
+    return {**found, **repetitions({str(path.relative_to(TOP)): lines_of(path) for path in scripts()}, LONG_PYTHON)}
 
 
 def known() -> Dict[Pair, int]:
     """Those that are known of."""
-    rows = [line.split(" ") for line in KNOWN.read_text(encoding="utf-8").splitlines()]
+    rows = [line.split(" ") for line in KNOWN.read_text(encoding="utf-8").splitlines() if not line.startswith("#")]
     return {(left, right): int(count) for count, left, right in rows}
+
+
+def reasons() -> str:
+    """What the file says of why something stands twice."""
+    lines = KNOWN.read_text(encoding="utf-8").splitlines(keepends=True)
+    return "".join(line for line in lines if line.startswith("#"))
 
 
 def listed(counts: Dict[Pair, int]) -> str:
@@ -69,14 +87,16 @@ def listed(counts: Dict[Pair, int]) -> str:
 
 def main(words: List[str]) -> int:
     """Lists the repetitions, or writes them down."""
-    if words not in ([], ["--write"]):
+    if words not in ([], ["--write"], ["--tighten"]):
         print((__doc__ or "").strip(), file=sys.stderr)
         return 2
-    text = listed(today())
+    found = today()
+    if words == ["--tighten"]:
+        found = {pair: min(count, found[pair]) for pair, count in known().items() if pair in found}
     if words:
-        KNOWN.write_text(text, encoding="utf-8")
+        KNOWN.write_text(reasons() + listed(found), encoding="utf-8")
     else:
-        print(text, end="")
+        print(listed(found), end="")
     return 0
 
 

@@ -81,7 +81,8 @@ impl Grower for CostDecider<'_, '_> {
     }
 }
 
-/// Builds the right tree of a case for costs, a cap and a budget. Memory is taken for a room and for the tree.
+/// Builds the right tree of a case for costs, a cap and a budget. Memory is taken for a room and for the tree. The
+/// program writes trees as it walks; the tests of trees call this.
 pub fn build(
     alloc: Global,
     case: &Case,

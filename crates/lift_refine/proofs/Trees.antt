@@ -51,10 +51,11 @@ module _ (down : AreHalved) (axes : SplitAxesStay) (opens : OpenStays) (accepted
   right_there (reject u r) spans depth place at_depth same h = (rejected v bound u r k spans root n limit le).0 h
   right_there unknown spans depth place at_depth same h = ((opens v bound k spans root n limit le).0 h.0, omega (arith, same, h.1))
   right_there (split axis lower upper) spans depth place at_depth same h =
-      let to = down k n depth axis spans is at_depth h.0.left h.0.axis_is in (
-        record { is_open = (opens v bound k spans root n limit le).0 h.0.is_open; left = omega (arith, same, h.0.left); axis_is = (axes (live k.model) n spans axis le).0 h.0.axis_is },
-        subst (λ part. IsRight (finer_case n root limit k) v part bound (place + 1) lower) (sym to.lower_is) (right_there lower (lower_half axis spans) (depth + 1) (place + 1) to.lower (omega (arith, same)) h.1),
-        subst (λ part. IsRight (finer_case n root limit k) v part bound (place + 1) upper) (sym to.upper_is) (right_there upper (upper_half axis spans) (depth + 1) (place + 1) to.upper (omega (arith, same)) h.2),
+      let to = down k n depth axis spans is at_depth h.1.left h.1.axis_is in (
+        (opens v bound k spans root n limit le).0 h.0,
+        record { left = omega (arith, same, h.1.left); axis_is = (axes (live k.model) n spans axis le).0 h.1.axis_is },
+        subst (λ part. IsRight (finer_case n root limit k) v part bound (place + 1) lower) (sym to.lower_is) (right_there lower (lower_half axis spans) (depth + 1) (place + 1) to.lower (omega (arith, same)) h.2),
+        subst (λ part. IsRight (finer_case n root limit k) v part bound (place + 1) upper) (sym to.upper_is) (right_there upper (upper_half axis spans) (depth + 1) (place + 1) to.upper (omega (arith, same)) h.3),
       )
 
   right_here : (t : Tree) (spans : Spans) (depth place : ℕ) → IsAtDepth k depth spans → AreAsDeep k depth (finer_case n root limit k) place
@@ -64,12 +65,13 @@ module _ (down : AreHalved) (axes : SplitAxesStay) (opens : OpenStays) (accepted
   right_here (reject u r) spans depth place at_depth same h = (rejected v bound u r k spans root n limit le).1 h
   right_here unknown spans depth place at_depth same h = ((opens v bound k spans root n limit le).1 h.0, omega (arith, same, h.1))
   right_here (split axis lower upper) spans depth place at_depth same h =
-      let left : depth < greatest_depth k = omega (arith, same, h.0.left) in
-      let axis_is : IsSplitAxis (live k.model) spans axis = (axes (live k.model) n spans axis le).1 h.0.axis_is in
+      let left : depth < greatest_depth k = omega (arith, same, h.1.left) in
+      let axis_is : IsSplitAxis (live k.model) spans axis = (axes (live k.model) n spans axis le).1 h.1.axis_is in
       let to = down k n depth axis spans is at_depth left axis_is in (
-        record { is_open = (opens v bound k spans root n limit le).1 h.0.is_open; left = left; axis_is = axis_is },
-        right_here lower (lower_half axis spans) (depth + 1) (place + 1) to.lower (omega (arith, same)) (subst (λ part. IsRight (finer_case n root limit k) v part bound (place + 1) lower) to.lower_is h.1),
-        right_here upper (upper_half axis spans) (depth + 1) (place + 1) to.upper (omega (arith, same)) (subst (λ part. IsRight (finer_case n root limit k) v part bound (place + 1) upper) to.upper_is h.2),
+        (opens v bound k spans root n limit le).1 h.0,
+        record { left = left; axis_is = axis_is },
+        right_here lower (lower_half axis spans) (depth + 1) (place + 1) to.lower (omega (arith, same)) (subst (λ part. IsRight (finer_case n root limit k) v part bound (place + 1) lower) to.lower_is h.2),
+        right_here upper (upper_half axis spans) (depth + 1) (place + 1) to.upper (omega (arith, same)) (subst (λ part. IsRight (finer_case n root limit k) v part bound (place + 1) upper) to.upper_is h.3),
       )
 
 pub right_trees_stay : AreHalved → SplitAxesStay → OpenStays → AcceptedStays → RejectedStays → RightTreesStay
@@ -98,13 +100,14 @@ module _ (down : AreHalved) (axes : SplitAxesStay) (opens : OpenStays) (accepted
   refined_is_right (reject u r) refined spans depth at_depth h same = subst (λ tree. IsRight (finer_case n root limit k) v (finer_spans n spans) bound depth tree) same ((rejected v bound u r k spans root n limit le).0 h)
   refined_is_right unknown refined spans depth at_depth h below = below
   refined_is_right (split axis lower upper) (split other low up) spans depth at_depth h below =
-      let to = down k n depth axis spans is at_depth h.0.left h.0.axis_is in
+      let to = down k n depth axis spans is at_depth h.1.left h.1.axis_is in
       let deeper = finer_case n root limit k in
       let P : Spans → ℕ → Tree → Type 0 = λ part place tree. IsRight deeper v part bound place tree in
       subst (λ a. IsRight deeper v (finer_spans n spans) bound depth (split a low up)) below.0 (
-        record { is_open = (opens v bound k spans root n limit le).0 h.0.is_open; left = omega (arith, deep, h.0.left); axis_is = (axes (live k.model) n spans axis le).0 h.0.axis_is },
-        subst (λ part. IsRight deeper v part bound (depth + 1) low) (sym to.lower_is) (refined_is_right lower low (lower_half axis spans) (depth + 1) to.lower h.1 (subst (λ part. Refines P part (depth + 1) lower low) to.lower_is below.1)),
-        subst (λ part. IsRight deeper v part bound (depth + 1) up) (sym to.upper_is) (refined_is_right upper up (upper_half axis spans) (depth + 1) to.upper h.2 (subst (λ part. Refines P part (depth + 1) upper up) to.upper_is below.2)),
+        (opens v bound k spans root n limit le).0 h.0,
+        record { left = omega (arith, deep, h.1.left); axis_is = (axes (live k.model) n spans axis le).0 h.1.axis_is },
+        subst (λ part. IsRight deeper v part bound (depth + 1) low) (sym to.lower_is) (refined_is_right lower low (lower_half axis spans) (depth + 1) to.lower h.2 (subst (λ part. Refines P part (depth + 1) lower low) to.lower_is below.1)),
+        subst (λ part. IsRight deeper v part bound (depth + 1) up) (sym to.upper_is) (refined_is_right upper up (upper_half axis spans) (depth + 1) to.upper h.3 (subst (λ part. Refines P part (depth + 1) upper up) to.upper_is below.2)),
       )
   refined_is_right (split axis lower upper) refined spans depth at_depth h below = absurd below
 
@@ -153,7 +156,7 @@ module _ (k : CaseData) (v : ℕ) (bound : Bound) where
   right_is_certified (reject u r) spans depth h = h.rejecting
   right_is_certified unknown spans depth h = h.1
   right_is_certified (split axis lower upper) spans depth h =
-      (record { left = h.0.left; axis_is = h.0.axis_is }, right_is_certified lower (lower_half axis spans) (depth + 1) h.1, right_is_certified upper (upper_half axis spans) (depth + 1) h.2)
+      (record { left = h.1.left; axis_is = h.1.axis_is }, right_is_certified lower (lower_half axis spans) (depth + 1) h.2, right_is_certified upper (upper_half axis spans) (depth + 1) h.3)
 
 pub right_trees_are_certified : RightTreesAreCertified
 right_trees_are_certified k v bound spans depth t = right_is_certified k v bound t spans depth

@@ -1,5 +1,5 @@
 -- The split rule chooses at most one axis.
-use Rattle.std.proofs.Common.{◌≡◌, ℕ, ◌<◌, ◌⊎◌, inl, inr, ⊎_elim, arith}
+use Rattle.std.proofs.Common.{◌≡◌, ℕ, ◌<◌, ◌⊎◌, ⊎_elim, arith}
 use Rattle.lift_grid.specs.Rectangle.{Spans}
 use Rattle.lift_grid.specs.Splitting.{IsSplitAxis}
 

@@ -4,9 +4,8 @@ use Rattle.lift_pool.specs.Lanes.{PoolData, last_lane, pool_with, pool_written}
 use Rattle.lift_pool.specs.Laws.{WritesOneLane, TakesCanBeUndone}
 use Rattle.lift_grid.specs.Laws.{HalvesKeepCount, SpansAreHalvable, SpansOfSides, SidesOfSpans}
 use Rattle.lift_grid.specs.Rectangle.{Spans, sides_of, spans_of}
-use Rattle.lift_grid.specs.Splitting.{IsSplitAxis, HasHalvings}
-use Rattle.lift_model.specs.Model.{live}
-use Rattle.corner_lift.specs.Case.{CaseData, IsCase, greatest_depth}
+use Rattle.lift_grid.specs.Splitting.{HasHalvings}
+use Rattle.corner_lift.specs.Case.{greatest_depth}
 use Rattle.corner_lift.specs.Laws.{LiveHasSpan}
 use Rattle.lift_walk.specs.Laws.{RootIsAtDepth, HalvesAreDeeper, SidesBeginAtRoot, SidesGoDown}
 use Rattle.lift_walk.specs.Sides.{IsAtDepth, half_of, sides_with_half}

@@ -45,9 +45,9 @@ module _ (accepting : AcceptingBounds) (reached : RejectingReaches) (lower : Low
       only (LeafHolds k bound) _ (reached (at k u) spans bound r (case_within u h.first.between) inside.inside h.rejecting, h.rejecting.limit)
   leaves_hold spans depth unknown inside h = only (LeafHolds k bound) _ tt
   leaves_hold spans depth (split axis lower upper) inside h =
-      let halves = deeper k spans depth axis case inside h.0.left h.0.axis_is in
+      let halves = deeper k spans depth axis case inside h.1.left h.1.axis_is in
       All-append (LeafHolds k bound) (leaves (lower_half axis spans) (depth + 1) lower) (leaves (upper_half axis spans) (depth + 1) upper)
-      (leaves_hold (lower_half axis spans) (depth + 1) lower halves.0 h.1) (leaves_hold (upper_half axis spans) (depth + 1) upper halves.1 h.2)
+      (leaves_hold (lower_half axis spans) (depth + 1) lower halves.0 h.2) (leaves_hold (upper_half axis spans) (depth + 1) upper halves.1 h.3)
 
 -- the lines of a leaf, behind that of its precision
 behind : (front : List (List ℕ)) (lines : List (List ℕ)) (text : List ℕ) → concat lines ≡ text → (concat front ++ text) ++ [] ≡ concat (front ++ lines)

@@ -60,7 +60,7 @@ module _ (fits : HeightFits) (lowers : LowerPrecisionIsCase) (k : CaseData) (fro
   sound_tree spans depth (reject u r) h = h.rejecting
   sound_tree spans depth unknown h = h.1
   sound_tree spans depth (split axis lower upper) h =
-      (record { left = h.0.left; axis_is = h.0.axis_is }, sound_tree (lower_half axis spans) (depth + 1) lower h.1, sound_tree (upper_half axis spans) (depth + 1) upper h.2)
+      (record { left = h.1.left; axis_is = h.1.axis_is }, sound_tree (lower_half axis spans) (depth + 1) lower h.2, sound_tree (upper_half axis spans) (depth + 1) upper h.3)
 
   -- and can be told: no rank is above the number of states
   pub can_be_told : (spans : Spans) (depth : ℕ) (tree : Tree) → IsRight k (least k from) spans bound depth tree → CanBeTold (record { asked = k; from = from; bound = bound }) tree
@@ -72,7 +72,7 @@ module _ (fits : HeightFits) (lowers : LowerPrecisionIsCase) (k : CaseData) (fro
       let few = case.asked.model.count.1 in
       (between, omega (arith, fit, few))
   can_be_told spans depth unknown h = tt
-  can_be_told spans depth (split axis lower upper) h = (can_be_told (lower_half axis spans) (depth + 1) lower h.1, can_be_told (upper_half axis spans) (depth + 1) upper h.2)
+  can_be_told spans depth (split axis lower upper) h = (can_be_told (lower_half axis spans) (depth + 1) lower h.2, can_be_told (upper_half axis spans) (depth + 1) upper h.3)
 
 -- ---- the file
 

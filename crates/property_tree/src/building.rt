@@ -10,6 +10,7 @@ ghost use Rattle.property_tree.specs.Leaves.{IsRightFor};
 
 use crate::decider::PropertyDecider;
 use crate::decision::Verdict;
+use crate::laws::leaves_are_one;
 use crate::question::Question;
 use crate::room::{PropertyLanes, PropertyRoom};
 use crate::sides::is_upper;
@@ -158,7 +159,8 @@ impl Grower for PropertyDecider<'_, '_> {
     }
 }
 
-/// Builds the right tree of a case for a comparison with a bound. Memory is taken for a room and for the tree.
+/// Builds the right tree of a case for a comparison with a bound. Memory is taken for a room and for the tree. The
+/// program writes trees as it walks; the tests of trees call this.
 pub fn build(
     alloc: Global,
     case: &Case,
@@ -169,6 +171,8 @@ pub fn build(
     requires { AreLinks case.now.model links.now }
     ensures { IfOk result (λ t. IsRightFor case.now op bound case.now.root 0 (halved_of t.top)) }
 {
+    leaves_are_one();
+    let _ = case.w();
     let mut room = PropertyRoom::make(alloc, case, links)?;
     room.lanes.forget();
     let question = Question {

@@ -1,15 +1,16 @@
--- How a walk goes on: what stays of a room, and how it goes down to the halves.
-use Rattle.std.proofs.Common.{◌≡◌, ℕ, ◌*◌, Bool, [], ◌∷◌, length, map, IfSome, refl, sym, ap, ◌∙◌, subst}
-use Rattle.lift_pool.specs.Lanes.{pool_without_last}
+-- Lanes that are ready for a decision, and what stays of them.
+use Rattle.std.proofs.Common.{ℕ, ◌*◌, length, IfSome, refl, sym, ◌∙◌, subst}
 use Rattle.lift_model.specs.Links.{LinksData, AreLinks}
 use Rattle.lift_model.specs.Model.{ModelData}
-use Rattle.corner_lift.specs.Case.{CaseData, IsCase}
-use Rattle.lift_walk.specs.Laws.{RootHasAllEnds}
+use Rattle.corner_lift.specs.Case.{CaseData}
+use Rattle.lift_cert.specs.declared.bound.Bound.{Bound}
 use Rattle.lift_collapse.specs.Collapse.{IsCollapse}
-use Rattle.region_tree.specs.Decided.{CanDecide}
-use Rattle.region_tree.specs.Recent.{DecidedData, HasAllPlaces, KeepsPlaces, forgotten}
-use Rattle.region_tree.specs.Rooms.{RoomData, HasLanes, KeepsShape, StandsAtDepth, IsMadeFor, IsAsMade, StepsDown, room_at_root, room_with_half, room_without_last}
+use Rattle.lift_range.specs.Range.{Between}
+use Rattle.region_tree.specs.Recent.{AreCertified, DecidedData, HasAllPlaces, KeepsPlaces, forgotten}
+use Rattle.region_tree.specs.Rooms.{LanesData, HasLanes, KeepsShape}
+use Rattle.region_tree.specs.Walking.{AreReady}
 use Rattle.region_tree.proofs.Lanes.{same_pool, pool_then, same_pools, pools_then, pools_kept}
+use Rattle.region_tree.proofs.Meeting.{none_certified}
 
 same_places : (a : DecidedData) → KeepsPlaces a a
 same_places a = record { accepted = same_pool a.accepted.sides; rejected = same_pool a.rejected.sides }
@@ -23,22 +24,18 @@ places_kept ends a b h g = record { accepted = h.accepted.lanes ∙ g.accepted; 
 forgotten_keeps : (a : DecidedData) → KeepsPlaces a (forgotten a)
 forgotten_keeps a = record { accepted = same_pool a.accepted.sides; rejected = same_pool a.rejected.sides }
 
--- a room of that shape, with other rectangles noted
-pub shape_with : (a b : RoomData) (d : DecidedData) → KeepsShape a b → KeepsPlaces b.decided d → KeepsShape a (record b { decided = d })
-shape_with a b d h places = record { collapse = h.collapse; weights = h.weights; pools = h.pools; decided = places_then a.decided b.decided d h.decided places }
+pub same_shape : (a : LanesData) → KeepsShape a a
+same_shape a = record { collapse = refl; weights = same_pool a.weights; pools = same_pools a.pools; decided = same_places a.decided }
 
-pub same_room : (a : RoomData) → KeepsShape a a
-same_room a = record { collapse = refl; weights = same_pool a.weights; pools = same_pools a.pools; decided = same_places a.decided }
-
-pub room_then : (a b c : RoomData) → KeepsShape a b → KeepsShape b c → KeepsShape a c
-room_then a b c h g = record {
+pub shape_then : (a b c : LanesData) → KeepsShape a b → KeepsShape b c → KeepsShape a c
+shape_then a b c h g = record {
   collapse = g.collapse ∙ h.collapse;
   weights = pool_then a.weights b.weights c.weights h.weights g.weights;
   pools = pools_then a.pools b.pools c.pools h.pools g.pools;
   decided = places_then a.decided b.decided c.decided h.decided g.decided;
 }
 
-pub lanes_kept : (m : ModelData) (l : LinksData) (a b : RoomData) → KeepsShape a b → HasLanes m l a → HasLanes m l b
+pub lanes_kept : (m : ModelData) (l : LinksData) (a b : LanesData) → KeepsShape a b → HasLanes m l a → HasLanes m l b
 lanes_kept m l a b h g = record {
   collapse = subst (λ found. IfSome found (IsCollapse m)) (sym h.collapse) g.collapse;
   weights = h.weights.lanes ∙ g.weights;
@@ -46,42 +43,29 @@ lanes_kept m l a b h g = record {
   decided = places_kept (2 * length m.names) a.decided b.decided h.decided g.decided;
 }
 
--- where a walk stands hangs on the sides alone
-pub placed_as : (k : CaseData) (depth : ℕ) (a b : RoomData) → b.sides ≡ a.sides → StandsAtDepth k depth a → StandsAtDepth k depth b
-placed_as k depth a b same h = rw same h
+begun_keeps : (a : LanesData) → KeepsShape a (record a { decided = forgotten a.decided })
+begun_keeps a = record { collapse = refl; weights = same_pool a.weights; pools = same_pools a.pools; decided = forgotten_keeps a.decided }
 
-pub can_decide : (k : CaseData) (l : LinksData) (depth : ℕ) (room : RoomData) → AreLinks k.model l → HasLanes k.model l room → StandsAtDepth k depth room → CanDecide k l room
-can_decide k l depth room links lanes h = record {
-  links = links;
-  lanes = lanes;
-  some = h.some;
-  sides = record { rectangle = h.sides; within = h.at_depth.inside.within };
+-- with other rectangles noted they have that shape too
+pub shape_with : (a b : LanesData) (d : DecidedData) → KeepsShape a b → KeepsPlaces b.decided d → KeepsShape a (record b { decided = d })
+shape_with a b d h places = record { collapse = h.collapse; weights = h.weights; pools = h.pools; decided = places_then a.decided b.decided d h.decided places }
+
+-- a decision that keeps the shape of the lanes, and notes what has a certificate, leaves them ready
+pub still_ready : (k : CaseData) (l : LinksData) (bound : Bound) (from : ℕ) (made a b : LanesData) → KeepsShape a b → AreCertified k bound b.decided → AreReady k l bound from made a → AreReady k l bound from made b
+still_ready k l bound from made a b h known ready = record {
+  links = ready.links;
+  range = ready.range;
+  has = lanes_kept k.model l a b h ready.has;
+  shape = shape_then made a b ready.shape h;
+  known = known;
 }
 
--- giving back the half that a walk went down to
-pub gone_back : (k : CaseData) (depth axis : ℕ) (lower : Bool) (room down up : RoomData) → StepsDown k depth axis lower room → down.sides ≡ (room_with_half lower axis room).sides → up ≡ room_without_last down → up.sides ≡ room.sides
-gone_back k depth axis lower room down up h same e =
-    ap (λ r. r.sides) e ∙ ap (λ p. pool_without_last p) same ∙ ap (λ r. r.sides) h.back
+-- where nothing is noted, lanes that are made for a case are ready
+pub ready_at_first : (k : CaseData) (l : LinksData) (bound : Bound) (from : ℕ) (a : LanesData) → AreLinks k.model l → Between 1 k.w from → HasLanes k.model l a → let b : LanesData = record a { decided = forgotten a.decided } in AreReady k l bound from b b
+ready_at_first k l bound from a links range has =
+    let b : LanesData = record a { decided = forgotten a.decided } in
+    record { links = links; range = range; has = lanes_kept k.model l a b (begun_keeps a) has; shape = same_shape b; known = none_certified k bound a.decided }
 
--- the other lanes stay where a lane of sides is taken or given back
-pub half_lanes : (m : ModelData) (l : LinksData) (lower : Bool) (axis : ℕ) (room half : RoomData) → half ≡ room_with_half lower axis room → HasLanes m l room → HasLanes m l half
-half_lanes m l lower axis room half e h = rw e (record { collapse = h.collapse; weights = h.weights; pools = h.pools; decided = h.decided })
-
-pub back_lanes : (m : ModelData) (l : LinksData) (room up : RoomData) → up ≡ room_without_last room → HasLanes m l room → HasLanes m l up
-back_lanes m l room up e h = rw e (record { collapse = h.collapse; weights = h.weights; pools = h.pools; decided = h.decided })
-
--- a walk begins in a room that is made for the case, where nothing is noted
-pub begun_lanes : (k : CaseData) (l : LinksData) (room begun : RoomData) → begun ≡ room_at_root k room → HasLanes k.model l room → HasLanes k.model l begun
-begun_lanes k l room begun e h = rw e (record { collapse = h.collapse; weights = h.weights; pools = h.pools; decided = record { accepted = h.decided.accepted; rejected = h.decided.rejected } })
-
--- after a walk the room is as made
-root_kept : (k : CaseData) (room : RoomData) → KeepsShape room (room_at_root k room)
-root_kept k room = record { collapse = refl; weights = same_pool room.weights; pools = same_pools room.pools; decided = forgotten_keeps room.decided }
-
-pub as_made : RootHasAllEnds → (k : CaseData) (l : LinksData) (room begun new : RoomData) → IsCase k → IsMadeFor k l room → begun ≡ room_at_root k room → new.sides ≡ begun.sides → KeepsShape begun new → IsAsMade room new
-as_made root_ends k l room begun new is made e sides shape =
-    let at : new.sides ≡ (room_at_root k room).sides = sides ∙ ap (λ r. r.sides) e in
-    record {
-      sides = record { lanes = ap (λ p. map length p.lanes) at ∙ ap (λ n. n ∷ []) (root_ends k is) ∙ sym made.sides.lane; spare = ap (λ p. p.spare) at; spare_lanes = ap (λ p. p.spare_lanes) at };
-      rest = room_then room begun new (subst (λ r. KeepsShape room r) (sym e) (root_kept k room)) shape;
-    }
+-- after a walk they have the shape that they had before it
+pub kept_since : (k : CaseData) (l : LinksData) (bound : Bound) (from : ℕ) (a b : LanesData) → AreReady k l bound from (record a { decided = forgotten a.decided }) b → KeepsShape a b
+kept_since k l bound from a b ready = shape_then a (record a { decided = forgotten a.decided }) b (begun_keeps a) ready.shape

@@ -3,7 +3,7 @@ pub mod Ranges
 pub mod Unique
 pub mod Tiling
 pub mod Lanes
-pub mod Steps
+pub mod Shown
 pub mod Verdicts
 pub mod Found
 pub mod Goings
@@ -19,4 +19,5 @@ pub mod Staged
 pub mod Lowers
 pub mod Axes
 pub mod Trees
-pub mod Onward
+pub mod Ahead
+pub mod Refined

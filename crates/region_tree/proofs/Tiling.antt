@@ -14,9 +14,9 @@ module _ (deeper : HalvesAreDeeper) (live_spans : LiveHasSpan) (k : CaseData) (v
   halves_spans depth ss (accept u x) at h = tt
   halves_spans depth ss (reject u r) at h = tt
   halves_spans depth ss unknown at h = tt
-  halves_spans depth ss (split axis lower upper) at h = (let next = deeper k ss depth axis is at h.0.left h.0.axis_is in (
+  halves_spans depth ss (split axis lower upper) at h = (let next = deeper k ss depth axis is at h.1.left h.1.axis_is in (
     at.left.spans,
-    live_spans k ss axis is at.inside h.0.axis_is.is_live,
-    halves_spans (depth + 1) (lower_half axis ss) lower next.0 h.1,
-    halves_spans (depth + 1) (upper_half axis ss) upper next.1 h.2,
+    live_spans k ss axis is at.inside h.1.axis_is.is_live,
+    halves_spans (depth + 1) (lower_half axis ss) lower next.0 h.2,
+    halves_spans (depth + 1) (upper_half axis ss) upper next.1 h.3,
   ))

@@ -113,7 +113,7 @@ module _ (uppers : LeastUppersExist) (lowers : GreatestLowersExist) (axes : Spli
       let next : depth + 1 + left ≡ greatest_depth k = omega (arith, e) in
       let low = tree_of left (open_tree left) (depth + 1) (lower_half axis.0 ss) next deeper.0 in
       let up = tree_of left (open_tree left) (depth + 1) (upper_half axis.0 ss) next deeper.1 in
-      (split axis.0 low.0 up.0, (record { is_open = neither; left = more; axis_is = axis.1 }, low.1, up.1))
+      (split axis.0 low.0 up.0, (neither, record { left = more; axis_is = axis.1 }, low.1, up.1))
 
   pub right_tree : IsAtDepth k 0 k.root → (tree : Tree) × IsRightTree k v bound tree
   right_tree at_root = tree_of (greatest_depth k) (open_tree (greatest_depth k)) 0 k.root (omega arith) at_root

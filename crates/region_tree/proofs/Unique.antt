@@ -154,22 +154,22 @@ module _ (lower_case : LowerPrecisionIsCase) (uppers : LeastUppersAreOne) (lower
   pub tree_is_one : (depth : ℕ) (ss : Spans) (t u : Tree) → IsAtDepth k depth ss → IsRight k v ss bound depth t → IsRight k v ss bound depth u → t ≡ u
   tree_is_one depth ss (accept u x) (accept t y) at h g = let same = accepted_is_one k v ss bound uppers u t x y h g in let precision : u ≡ t = same.0 in let numbers : x ≡ y = same.1 in cc
   tree_is_one depth ss (accept u x) (reject t q) at h g = absurd (accepted_is_no_rejected k v ss bound u t x q h g)
-  tree_is_one depth ss (accept u x) (split axis lower upper) at h g = absurd (accepted_is_no_open k v ss bound u x h g.0.is_open)
+  tree_is_one depth ss (accept u x) (split axis lower upper) at h g = absurd (accepted_is_no_open k v ss bound u x h g.0)
   tree_is_one depth ss (accept u x) unknown at h g = absurd (accepted_is_no_open k v ss bound u x h g.0)
   tree_is_one depth ss (reject u r) (accept t y) at h g = absurd (accepted_is_no_rejected k v ss bound t u y r g h)
   tree_is_one depth ss (reject u r) (reject t q) at h g = let same = rejected_is_one k v ss bound lower_case lowers is positive at.inside u t r q h g in let precision : u ≡ t = same.0 in let data_same : r ≡ q = same.1 in cc
-  tree_is_one depth ss (reject u r) (split axis lower upper) at h g = absurd (rejected_is_no_open k v ss bound u r h g.0.is_open)
+  tree_is_one depth ss (reject u r) (split axis lower upper) at h g = absurd (rejected_is_no_open k v ss bound u r h g.0)
   tree_is_one depth ss (reject u r) unknown at h g = absurd (rejected_is_no_open k v ss bound u r h g.0)
-  tree_is_one depth ss (split axis lower upper) (accept t y) at h g = absurd (accepted_is_no_open k v ss bound t y g h.0.is_open)
-  tree_is_one depth ss (split axis lower upper) (reject t q) at h g = absurd (rejected_is_no_open k v ss bound t q g h.0.is_open)
+  tree_is_one depth ss (split axis lower upper) (accept t y) at h g = absurd (accepted_is_no_open k v ss bound t y g h.0)
+  tree_is_one depth ss (split axis lower upper) (reject t q) at h g = absurd (rejected_is_no_open k v ss bound t q g h.0)
   tree_is_one depth ss (split axis lower upper) (split other low up) at h g =
-      let same : other ≡ axis = axes _ ss other axis g.0.axis_is h.0.axis_is in
-      let deeper = halves k ss depth axis is at h.0.left h.0.axis_is in
-      let lows : lower ≡ low = tree_is_one (depth + 1) (lower_half axis ss) lower low deeper.0 h.1 (subst (λ a. IsRight k v (lower_half a ss) bound (depth + 1) low) same g.1) in
-      let ups : upper ≡ up = tree_is_one (depth + 1) (upper_half axis ss) upper up deeper.1 h.2 (subst (λ a. IsRight k v (upper_half a ss) bound (depth + 1) up) same g.2) in
+      let same : other ≡ axis = axes _ ss other axis g.1.axis_is h.1.axis_is in
+      let deeper = halves k ss depth axis is at h.1.left h.1.axis_is in
+      let lows : lower ≡ low = tree_is_one (depth + 1) (lower_half axis ss) lower low deeper.0 h.2 (subst (λ a. IsRight k v (lower_half a ss) bound (depth + 1) low) same g.2) in
+      let ups : upper ≡ up = tree_is_one (depth + 1) (upper_half axis ss) upper up deeper.1 h.3 (subst (λ a. IsRight k v (upper_half a ss) bound (depth + 1) up) same g.3) in
       cc
-  tree_is_one depth ss (split axis lower upper) unknown at h g = absurd (omega (arith, h.0.left, g.1))
+  tree_is_one depth ss (split axis lower upper) unknown at h g = absurd (omega (arith, h.1.left, g.1))
   tree_is_one depth ss unknown (accept t y) at h g = absurd (accepted_is_no_open k v ss bound t y g h.0)
   tree_is_one depth ss unknown (reject t q) at h g = absurd (rejected_is_no_open k v ss bound t q g h.0)
-  tree_is_one depth ss unknown (split axis lower upper) at h g = absurd (omega (arith, g.0.left, h.1))
+  tree_is_one depth ss unknown (split axis lower upper) at h g = absurd (omega (arith, g.1.left, h.1))
   tree_is_one depth ss unknown unknown at h g = refl

@@ -19,7 +19,7 @@ use Rattle.region_tree.specs.declared.verdict.Verdict.TheVariants.{Accept, Rejec
 -- The last rectangle of a room can be decided: the links are those of the case's model, the other lanes are those of a room made for the case, and the rectangle lies inside the root.
 pub record CanDecide (k : CaseData) (l : LinksData) (room : RoomData) : Type 0 where
   pub links : AreLinks k.model l
-  pub lanes : HasLanes k.model l room
+  pub lanes : HasLanes k.model l room.lanes
   pub some : 0 < length room.sides.lanes
   pub sides : AreSidesInside k.root (last_sides room)
 
@@ -58,4 +58,4 @@ IsDecidedIn k v spans bound p verdict = IsDecidedBy k v spans bound (lane p.valu
 
 -- the verdict is right of the rectangle, and its certificate stands in the room
 abbrev pub IsDecided : CaseData → ℕ → Spans → Bound → RoomData → Verdict → Type 0
-IsDecided k v spans bound room verdict = IsDecidedIn k v spans bound room.pools verdict
+IsDecided k v spans bound room verdict = IsDecidedIn k v spans bound room.lanes.pools verdict

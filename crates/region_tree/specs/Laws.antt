@@ -1,10 +1,10 @@
 -- What holds of right trees, for who reasons about them.
-use Rattle.std.specs.Prelude.{◌≡◌, ℕ, ◌<◌, ◌≤◌, Bool, List, ℤ, map}
+use Rattle.std.specs.Prelude.{◌≡◌, ℕ, ◌<◌, ◌≤◌, List, ℤ, map}
 use Rattle.std.specs.declared.option.Option.{Option}
 use Rattle.std.specs.Io.KnownBytes.{Appends}
 use Rattle.lift_base.specs.Outside.{Rose}
 use Rattle.lift_poly.specs.Polynomial.{Valuation}
-use Rattle.lift_grid.specs.Rectangle.{Spans, Inside, spans_of}
+use Rattle.lift_grid.specs.Rectangle.{Spans, Inside}
 use Rattle.lift_grid.specs.Splitting.{IsSplitAxis}
 use Rattle.lift_grid.specs.Tree.{Tree, RejectData, Tiles, leaves}
 use Rattle.lift_model.specs.Model.{live}
@@ -12,12 +12,10 @@ use Rattle.corner_lift.specs.Case.{CaseData, IsCase, IsInside, greatest_depth}
 use Rattle.corner_lift.specs.Certificate.{IsLeastUpper}
 use Rattle.corner_lift.specs.Stages.{IsGreatestLower}
 use Rattle.lift_cert.specs.declared.bound.Bound.{Bound}
-use Rattle.lift_model.specs.Links.{LinksData}
 use Rattle.region_tree.specs.Nodes.{Node}
 pub use Rattle.lift_walk.specs.Laws.{RootIsAtDepth, HalvesAreDeeper, SplitAxesAreOne}
 use Rattle.region_tree.specs.Recent.{Meet}
 use Rattle.region_tree.specs.Right.{IsRightTree}
-use Rattle.region_tree.specs.Rooms.{RoomData, IsMadeFor, StandsAtDepth, StepsDown, last_sides, room_at_root}
 use Rattle.region_tree.specs.Visits.{Walks, entries}
 use Rattle.region_tree.specs.declared.visitor.Seen.{Seen}
 
@@ -52,17 +50,6 @@ GreatestLowersAreOne = (k : CaseData) (spans : Spans) (r q : RejectData) → IsC
 -- the leaves of a right tree tile the root
 abbrev pub RightTreesTile : Type 0
 RightTreesTile = (k : CaseData) (v : ℕ) (bound : Bound) (tree : Tree) → IsCase k → IsRightTree k v bound tree → Tiles k.d k.root (map (λ leaf. leaf.spans) (leaves k.root 0 tree))
-
--- ---- rooms
-
--- a room that is made for a case, with the root's sides in its lane of sides, stands at depth 0
-abbrev pub WalksBeginAtRoot : Type 0
-WalksBeginAtRoot = (k : CaseData) (l : LinksData) (room : RoomData) → IsCase k → IsMadeFor k l room → StandsAtDepth k 0 (room_at_root k room)
-
--- while a halving is left, a walk can step down to both halves on the axis of the split rule
-abbrev pub WalksStepDown : Type 0
-WalksStepDown = (k : CaseData) (room : RoomData) (depth axis : ℕ) (lower : Bool) → IsCase k → StandsAtDepth k depth room → depth < greatest_depth k → IsSplitAxis (live k.model) (spans_of (last_sides room)) axis
-    → StepsDown k depth axis lower room
 
 -- two rectangles inside the root that meet share a valuation
 abbrev pub MeetingRectanglesShare : Type 0

@@ -7,3 +7,4 @@ pub mod Decided
 pub mod Built
 pub mod Bases
 pub mod Recent
+pub mod Walking

@@ -21,6 +21,7 @@ ghost use Rattle.region_tree.specs.Recent.{AreCertified, IsSound};
 ghost use Rattle.region_tree.specs.Right.{IsAccepted, NoneRejects};
 ghost use Rattle.region_tree.specs.Rooms.{
   HasLane,
+  HasLanes,
   HasPools,
   IsSameShape,
   KeepsPools,
@@ -32,7 +33,7 @@ ghost use Rattle.region_tree.specs.Rooms.{
 use crate::decided::Outlook;
 use crate::finder::Finder;
 use crate::pools::Pools;
-use crate::room::Room;
+use crate::room::{Lanes, Room};
 use crate::task::Task;
 use crate::verdict::Verdict;
 use corner_lift::{Case, fill};
@@ -190,40 +191,23 @@ impl Question<'_> {
     }
 }
 
-impl Room {
-    /// Makes the table of the rectangle that the last lane of sides holds, and that of the collapsed model, where
-    /// there is one.
-    fn make_tables(&mut self, case: &Case, links: &Links)
-        requires can { CanDecide case.now links.now self.old }
-        ensures sides { self.new.sides ≡ self.old.sides }
-        ensures pools { self.new.pools ≡ self.old.pools }
-        ensures noted { self.new.decided ≡ self.old.decided }
-        ensures collapse { collapse_of self.new.collapse ≡ collapse_of self.old.collapse }
-        ensures shape { IsSameShape self.old.weights self.new.weights }
-        ensures table { IsTable case.now links.now (spans_of (last_sides self.old)) (lane self.new.weights) }
-        ensures filled { IfSome self.new.collapse (IsFilled case.now (spans_of (last_sides self.old))) }
-    {
-        let sides = self.sides.lane(self.sides.lanes() - 1);
-        make_table(case, links, sides, &mut self.weights);
-        fill_collapse(case, sides, &mut self.collapse);
-    }
-}
-
 impl Task<'_> {
-    /// Decides the rectangle that the room's last lane of sides holds, of which that is known.
-    fn decide_by(&self, room: &mut Room, outlook: Outlook) -> Verdict
+    /// Decides the rectangle that has these sides, of which that is known.
+    fn decide_by(&self, lanes: &mut Lanes, sides: &[i64], outlook: Outlook) -> Verdict
         ghost spans: { Spans }
-        requires spans { spans_of (last_sides room.old) ≡ spans }
-        requires can { CanDecide self.now.case.now self.now.links.now room.old }
+        requires spans { spans_of sides.now ≡ spans }
+        requires links { AreLinks self.now.case.now.model self.now.links.now }
+        requires lanes { HasLanes self.now.case.now.model self.now.links.now lanes.old }
+        requires sides { AreSidesInside self.now.case.now.root sides.now }
         requires from { Between 1 self.now.case.now.w self.now.from }
         requires outlook { IsSound self.now.case.now self.now.bound spans outlook }
-        ensures sides { room.new.sides ≡ room.old.sides }
-        ensures shape { KeepsShape room.old room.new }
-        ensures noted { room.new.decided ≡ room.old.decided }
-        ensures table { IsTable self.now.case.now self.now.links.now spans (lane room.new.weights) }
-        ensures decided { IsDecided self.now.case.now self.now.from spans self.now.bound room.new result }
+        ensures shape { KeepsShape lanes.old lanes.new }
+        ensures noted { lanes.new.decided ≡ lanes.old.decided }
+        ensures table { IsTable self.now.case.now self.now.links.now spans (lane lanes.new.weights) }
+        ensures decided { IsDecidedIn self.now.case.now self.now.from spans self.now.bound lanes.new.pools result }
     {
-        room.make_tables(self.case, self.links);
+        make_table(self.case, self.links, sides, &mut lanes.weights);
+        fill_collapse(self.case, sides, &mut lanes.collapse);
         let question = Question {
             task: Task {
                 case: self.case,
@@ -231,36 +215,36 @@ impl Task<'_> {
                 bound: self.bound,
                 from: self.from,
             },
-            weights: room.weights.lane(0),
+            weights: lanes.weights.lane(0),
         };
         question.decide(
             outlook,
-            &mut room.collapse,
-            &mut room.pools,
-            &mut room.errors,
+            &mut lanes.collapse,
+            &mut lanes.pools,
+            &mut lanes.errors,
         )
     }
 
-    /// Decides the rectangle of a walk that the room's last lane of sides holds: what the rectangles before it had
-    /// tells of it, and what it has is noted.
-    pub(crate) fn decide_next(&self, room: &mut Room) -> Verdict
-        requires can { CanDecide self.now.case.now self.now.links.now room.old }
+    /// Decides the rectangle of a walk that has these sides: what the rectangles before it had tells of it, and what it
+    /// has is noted.
+    pub(crate) fn decide_next(&self, lanes: &mut Lanes, sides: &[i64]) -> Verdict
+        requires links { AreLinks self.now.case.now.model self.now.links.now }
+        requires lanes { HasLanes self.now.case.now.model self.now.links.now lanes.old }
+        requires sides { AreSidesInside self.now.case.now.root sides.now }
         requires from { Between 1 self.now.case.now.w self.now.from }
-        requires known { AreCertified self.now.case.now self.now.bound room.old.decided }
-        ensures sides { room.new.sides ≡ room.old.sides }
-        ensures shape { KeepsShape room.old room.new }
-        ensures known { AreCertified self.now.case.now self.now.bound room.new.decided }
-        ensures decided { IsDecided self.now.case.now self.now.from (spans_of (last_sides room.old)) self.now.bound
-            room.new result }
+        requires known { AreCertified self.now.case.now self.now.bound lanes.old.decided }
+        ensures shape { KeepsShape lanes.old lanes.new }
+        ensures known { AreCertified self.now.case.now self.now.bound lanes.new.decided }
+        ensures decided { IsDecidedIn self.now.case.now self.now.from (spans_of sides.now) self.now.bound
+            lanes.new.pools result }
     {
         certificates_are_of_one_kind();
         certificates_double();
         ranks_fit();
         let _ = self.case.w();
-        let last = room.sides.lanes() - 1;
-        let outlook = room.decided.outlook(room.sides.lane(last));
-        let verdict = self.decide_by(room, outlook);
-        room.decided.note(room.sides.lane(last), verdict);
+        let outlook = lanes.decided.outlook(sides);
+        let verdict = self.decide_by(lanes, sides, outlook);
+        lanes.decided.note(sides, verdict);
         verdict
     }
 }
@@ -270,13 +254,13 @@ impl Task<'_> {
 ///
 /// The room's weights are then the table of that rectangle. With `Accept` its values are the least upper
 /// vector at the verdict's precision, and with `Reject` its values, picks and ranks are those of the greatest lower
-/// vector there. Takes no memory.
+/// vector there. Takes no memory. Walks decide by more than the room: no program calls this.
 pub fn decide(case: &Case, links: &Links, bound: Bound, from: u32, room: &mut Room) -> Verdict
     requires can { CanDecide case.now links.now room.old }
     requires from { Between 1 case.now.w from }
     ensures sides { room.new.sides ≡ room.old.sides }
-    ensures shape { KeepsShape room.old room.new }
-    ensures table { IsTable case.now links.now (spans_of (last_sides room.old)) (lane room.new.weights) }
+    ensures shape { KeepsShape room.old.lanes room.new.lanes }
+    ensures table { IsTable case.now links.now (spans_of (last_sides room.old)) (lane room.new.lanes.weights) }
     ensures decided { IsDecided case.now from (spans_of (last_sides room.old)) bound room.new result }
 {
     let task = Task {
@@ -285,5 +269,6 @@ pub fn decide(case: &Case, links: &Links, bound: Bound, from: u32, room: &mut Ro
         bound,
         from,
     };
-    task.decide_by(room, Outlook::OPEN)
+    let last = room.sides.lanes() - 1;
+    task.decide_by(&mut room.lanes, room.sides.lane(last), Outlook::OPEN)
 }

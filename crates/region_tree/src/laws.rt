@@ -12,14 +12,12 @@ ghost use Rattle.region_tree.specs.Laws.{
   RightTreesTile,
   SplitAxesAreOne,
   SplitAxesExist,
-  WalksBeginAtRoot,
-  WalksStepDown,
 };
 
 use crate::visitor::Visitor;
 use corner_lift::{live_parameters_have_spans, lower_precisions_are_cases, rows_at_corners};
 use lift_grid::trees_tile;
-use lift_walk::{rectangles_at_depths, sides_go_down, split_axes_are_one};
+use lift_walk::{rectangles_at_depths, split_axes_are_one};
 use lower_cert::{ranks_fit, vectors_are_lowered};
 use robust_rank::ranks_go_by_stages;
 
@@ -75,15 +73,6 @@ pub fn right_trees_tile()
     rectangles_at_depths();
     live_parameters_have_spans();
     trees_tile();
-}
-
-/// A walk begins at the root in a room that is made for the case, and steps down to both halves of a
-/// rectangle while a halving is left.
-pub fn walks_are_placed()
-    ensures root { WalksBeginAtRoot }
-    ensures down { WalksStepDown }
-{
-    sides_go_down();
 }
 
 /// Two rectangles that meet share a valuation.

@@ -7,7 +7,7 @@ mod base;
 mod decided;
 mod decision;
 mod finder;
-mod halves;
+mod known;
 mod laws;
 mod leaf;
 mod pools;
@@ -15,6 +15,7 @@ mod precisions;
 mod recent;
 mod refining;
 mod room;
+mod showing;
 mod task;
 mod tree;
 mod verdict;
@@ -27,7 +28,7 @@ pub use decision::{decide, fill_collapse, make_table};
 pub use finder::Finder;
 pub use laws::{
     calm_walks_show_all, certificates_are_one, certificates_exist, meeting_rectangles_share,
-    right_trees_are_one, right_trees_exist, right_trees_tile, walks_are_placed,
+    right_trees_are_one, right_trees_exist, right_trees_tile,
 };
 pub use lift_walk::rectangles_at_depths;
 pub use pools::Pools;

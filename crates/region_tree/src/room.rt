@@ -1,7 +1,7 @@
 ghost use Rattle.std.specs.Prelude.{◌≡◌, ◌<◌, [], ◌∷◌, IfOk, length, slice_index_or};
 ghost use Rattle.lift_grid.specs.Rectangle.{sides_of};
 ghost use Rattle.lift_model.specs.Links.{AreLinks};
-ghost use Rattle.region_tree.specs.Recent.{HasAllPlaces};
+ghost use Rattle.region_tree.specs.Recent.{HasAllPlaces, forgotten};
 ghost use Rattle.region_tree.specs.Rooms.{IsMadeFor, end_count, last_sides};
 
 use crate::aim::Errors;
@@ -14,16 +14,11 @@ use lift_pool::Pool;
 use lift_walk::{sides_go_down, sides_of_case};
 use std::alloc::{AllocError, Global};
 
-/// All memory that a walk over the tree of a case needs.
-///
-/// A room is seen as its parts. What the lanes and the
-/// collapsed model's table hold between two walks is free, and so is what is noted.
+/// What the decision of a rectangle works in. It is seen as its parts.
 #[derive(Drop)]
-pub struct Room {
+pub struct Lanes {
     /// The case's model with fewer states, where that is worth it.
     pub(crate) collapse: Option<Collapse>,
-    /// The sides of the rectangles on the way from the root.
-    pub(crate) sides: Pool<i64>,
     /// The table of corner weights.
     pub(crate) weights: Pool<i128>,
     /// The lanes in which vectors are found.
@@ -34,17 +29,48 @@ pub struct Room {
     pub(crate) errors: Errors,
 }
 
+impl std::marker::Model for Lanes {
+    ghost use Rattle.region_tree.specs.Rooms.{LanesData};
+
+    ghost Value = { LanesData };
+
+    ghost view = { λ l. record {
+      collapse = l.collapse;
+      weights = l.weights;
+      pools = l.pools;
+      decided = l.decided;
+    } };
+}
+
+impl Lanes {
+    /// Forgets which rectangles were decided.
+    pub(crate) fn forget(&mut self)
+        ensures { self.new ≡ record self.old { decided = forgotten self.old.decided } }
+    {
+        self.decided.forget();
+    }
+}
+
+/// All memory that a walk over the tree of a case needs.
+///
+/// A room is seen as its parts. What the lanes and the
+/// collapsed model's table hold between two walks is free, and so is what is noted.
+#[derive(Drop)]
+pub struct Room {
+    /// The sides of the rectangles on the way from the root.
+    pub(crate) sides: Pool<i64>,
+    /// What the decision of each of them works in.
+    pub(crate) lanes: Lanes,
+}
+
 impl std::marker::Model for Room {
     ghost use Rattle.region_tree.specs.Rooms.{RoomData};
 
     ghost Value = { RoomData };
 
     ghost view = { λ r. record {
-      collapse = r.collapse;
       sides = r.sides;
-      weights = r.weights;
-      pools = r.pools;
-      decided = r.decided;
+      lanes = r.lanes;
     } };
 }
 
@@ -67,11 +93,13 @@ impl Room {
     {
         Ok(Room {
             sides: sides_of_case(alloc, case)?,
-            weights: Pool::filled(alloc, 1, links.weights_len(), 0)?,
-            pools: Pools::of_model(alloc, case.model(), links)?,
-            decided: decided_of_case(alloc, case)?,
-            errors: Errors::NONE,
-            collapse: Collapse::build(alloc, case.model(), links)?,
+            lanes: Lanes {
+                weights: Pool::filled(alloc, 1, links.weights_len(), 0)?,
+                pools: Pools::of_model(alloc, case.model(), links)?,
+                decided: decided_of_case(alloc, case)?,
+                errors: Errors::NONE,
+                collapse: Collapse::build(alloc, case.model(), links)?,
+            },
         })
     }
 
@@ -85,33 +113,33 @@ impl Room {
 
     /// The table of corner weights.
     pub fn weights(&self) -> &[i128]
-        requires { 0 < length self.now.weights.lanes }
-        ensures { result.now ≡ slice_index_or self.now.weights.lanes 0 [] }
+        requires { 0 < length self.now.lanes.weights.lanes }
+        ensures { result.now ≡ slice_index_or self.now.lanes.weights.lanes 0 [] }
     {
-        self.weights.lane(0)
+        self.lanes.weights.lane(0)
     }
 
     /// The numbers of the states.
     pub fn values(&self) -> &[i64]
-        requires { 0 < length self.now.pools.values.lanes }
-        ensures { result.now ≡ slice_index_or self.now.pools.values.lanes 0 [] }
+        requires { 0 < length self.now.lanes.pools.values.lanes }
+        ensures { result.now ≡ slice_index_or self.now.lanes.pools.values.lanes 0 [] }
     {
-        self.pools.values.lane(0)
+        self.lanes.pools.values.lane(0)
     }
 
     /// The picks of the states.
     pub fn picks(&self) -> &[u32]
-        requires { 0 < length self.now.pools.picks.lanes }
-        ensures { result.now ≡ slice_index_or self.now.pools.picks.lanes 0 [] }
+        requires { 0 < length self.now.lanes.pools.picks.lanes }
+        ensures { result.now ≡ slice_index_or self.now.lanes.pools.picks.lanes 0 [] }
     {
-        self.pools.picks.lane(0)
+        self.lanes.pools.picks.lane(0)
     }
 
     /// The ranks of the states.
     pub fn ranks(&self) -> &[u32]
-        requires { 0 < length self.now.pools.ranks.lanes }
-        ensures { result.now ≡ slice_index_or self.now.pools.ranks.lanes 0 [] }
+        requires { 0 < length self.now.lanes.pools.ranks.lanes }
+        ensures { result.now ≡ slice_index_or self.now.lanes.pools.ranks.lanes 0 [] }
     {
-        self.pools.ranks.lane(0)
+        self.lanes.pools.ranks.lane(0)
     }
 }

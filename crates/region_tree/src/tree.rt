@@ -1,26 +1,25 @@
 // The tree of a case, whole.
-ghost use Rattle.std.specs.Prelude.{◌≡◌, ◌≤◌, ◌<◌, IfOk, length};
-ghost use Rattle.lift_grid.specs.Rectangle.{spans_of};
-ghost use Rattle.lift_grid.specs.Tree.Tree.{split};
+ghost use Rattle.std.specs.List.{AllByRecursion};
+ghost use Rattle.std.specs.Prelude.{◌≡◌, [], ◌∷◌, IfOk, List};
+ghost use Rattle.std.specs.declared.option.Option.TheVariants.{None};
+ghost use Rattle.lift_base.specs.Outside.{last_count};
 ghost use Rattle.lift_model.specs.Links.{AreLinks};
-ghost use Rattle.corner_lift.specs.Case.{IsCase, greatest_depth};
 ghost use Rattle.lift_range.specs.Range.{Between};
+ghost use Rattle.lift_walk.specs.Halved.{Halved};
 ghost use Rattle.region_tree.specs.Built.{tree_of};
-ghost use Rattle.region_tree.specs.Decided.{IsDecided};
-ghost use Rattle.region_tree.specs.Recent.{AreCertified};
-ghost use Rattle.region_tree.specs.Right.{IsRight, IsRightTree};
-ghost use Rattle.region_tree.specs.Rooms.{HasLanes, IsMadeFor, KeepsShape, StandsAtDepth, last_sides};
-ghost use Rattle.region_tree.specs.declared.verdict.Verdict.TheVariants.{Unknown};
+ghost use Rattle.region_tree.specs.Right.{Decides, Decision, IsOpen, IsRightTree, tree_from};
+ghost use Rattle.region_tree.specs.Rooms.{IsMadeFor};
+ghost use Rattle.region_tree.specs.Walking.{AreReady, leaf_in};
 
-use crate::laws::walks_are_placed;
-use crate::room::Room;
+use crate::laws::certificates_are_one;
+use crate::leaf::{Found, Rejection};
+use crate::room::{Lanes, Room};
 use crate::task::Task;
-use crate::verdict::{Verdict, is_decided};
-use crate::walking::{Walker, axis_of};
-use corner_lift::Case;
+use corner_lift::{Case, lower_precisions_are_cases};
 use lift_cert::Bound;
-use lift_grid::{Marks, Values, rows_are_rectangles};
+use lift_grid::{Marks, Values};
 use lift_model::Links;
+use lift_walk::{Given, Guide, Walker};
 use std::alloc::{AllocError, Global};
 
 /// What stands at the top of a tree.
@@ -66,98 +65,138 @@ impl Tree {
     }
 }
 
-// A split, with the trees of its halves.
-fn halved(alloc: Global, axis: u32, lower: Branch, upper: Branch) -> Result<Branch, AllocError>
-    ensures { IfOk result (λ b. tree_of b ≡ split axis (tree_of lower) (tree_of upper)) }
-{
-    let lower = Box::new(alloc, lower)?;
-    let upper = Box::new(alloc, upper)?;
-    Ok(Branch::Split { axis, lower, upper })
+/// Builds the tree of a case. Its nodes go nowhere else, and nothing of it is known beforehand.
+#[derive(Drop)]
+struct Building<'a> {
+    task: Task<'a>,
+    alloc: Global,
 }
 
-impl Walker<'_> {
-    // The leaf of a rectangle that is decided, or of an open one at the greatest depth.
-    fn leaf(
+impl Guide for Building<'_> {
+    type Room = Lanes;
+
+    type Verdict = Found;
+
+    type Base = ();
+
+    type Out = ();
+
+    type Part = Branch;
+
+    type Fault = AllocError;
+
+    ghost Leaf = { Decision };
+
+    ghost case = { λ b. b.task.case.now };
+
+    ghost decides = { λ b. Decides b.task.case.now b.task.from b.task.bound };
+
+    ghost is_open = { λ b spans. IsOpen b.task.case.now b.task.from spans b.task.bound };
+
+    ghost may = { λ _ _ _. ⊥ };
+
+    ghost leaf = { λ _ lanes found. leaf_in lanes.pools found };
+
+    ghost is_ready = { λ b. AreReady b.task.case.now b.task.links.now b.task.bound b.task.from };
+
+    ghost Fixed = { Unit {0} };
+
+    ghost fixed = { λ _. tt };
+
+    ghost fits = { λ _ _. Unit {0} };
+
+    ghost taken = { λ _. None };
+
+    ghost faults = { λ _. last_count };
+
+    ghost split_entry = { λ _ _ _. [] };
+
+    ghost leaf_entry = { λ _ _ _. [] };
+
+    ghost unknown_entry = { λ _ _. [] };
+
+    ghost is_part = { λ _ t branch. tree_of branch ≡ tree_from t };
+
+    ghost BaseFixed = { Unit {0} };
+
+    ghost base_fixed = { λ _. tt };
+
+    ghost Rest = { List (Halved Decision) };
+
+    ghost first = { λ t rest. t ∷ rest };
+
+    ghost is_ahead = { λ _ _ _ trees. AllByRecursion (λ t. t ≡ Halved.unknown) trees };
+
+    fn decide(&self, room: &mut Lanes, sides: &[i64]) -> Option<Found> {
+        self.task.find(room, sides)
+    }
+
+    fn next(
         &self,
-        alloc: Global,
-        depth: u32,
-        room: &Room,
-        verdict: Verdict,
-    ) -> Result<Branch, AllocError>
-        requires decided { IsDecided self.now.task.case.now self.now.task.from (spans_of (last_sides room.now))
-            self.now.task.bound room.now verdict }
-        requires lanes { 0 < length room.now.pools.values.lanes }
-        requires leaf { verdict ≡ Unknown → depth ≡ greatest_depth self.now.task.case.now }
-        ensures { IfOk result (λ b. IsRight self.now.task.case.now self.now.task.from (spans_of (last_sides room.now))
-            self.now.task.bound depth (tree_of b)) }
-    {
+        _base: &mut (),
+        _room: &mut Lanes,
+        _sides: &[i64],
+        _out: &mut (),
+    ) -> Given<Result<Branch, AllocError>> {
+        Given::Unknown
+    }
+
+    fn take_split(&self, _out: &mut (), _axis: u32) -> Result<(), AllocError> {
+        Ok(())
+    }
+
+    fn take_leaf(&self, room: &Lanes, verdict: Found, _out: &mut ()) -> Result<Branch, AllocError> {
+        let pools = &room.pools;
         Ok(match verdict {
-            Verdict::Accept { u } => Branch::Accept {
+            Found::Accepted(u) => Branch::Accept {
                 u,
-                x: Values::from_slice(alloc, room.values())?,
+                x: Values::from_slice(self.alloc, pools.values.lane(0))?,
             },
-            Verdict::Reject { u, e, k } => Branch::Reject {
+            Found::Rejected(Rejection { u, e, k }) => Branch::Reject {
                 u,
                 e,
                 k,
-                y: Values::from_slice(alloc, room.values())?,
-                picks: Marks::from_slice(alloc, room.picks())?,
-                ranks: Marks::from_slice(alloc, room.ranks())?,
+                y: Values::from_slice(self.alloc, pools.values.lane(0))?,
+                picks: Marks::from_slice(self.alloc, pools.picks.lane(0))?,
+                ranks: Marks::from_slice(self.alloc, pools.ranks.lane(0))?,
             },
-            Verdict::Unknown => Branch::Unknown,
         })
     }
 
-    // The tree of the rectangle that the room's last lane of sides holds.
-    fn build_at(&self, alloc: Global, depth: u32, room: &mut Room) -> Result<Branch, AllocError>
-        requires case { IsCase self.now.task.case.now }
-        requires from { Between 1 self.now.task.case.now.w self.now.task.from }
-        requires links { AreLinks self.now.task.case.now.model self.now.task.links.now }
-        requires greatest { self.now.greatest ≡ greatest_depth self.now.task.case.now }
-        requires depth { depth ≤ self.now.greatest }
-        requires lanes { HasLanes self.now.task.case.now.model self.now.task.links.now room.old }
-        requires placed { StandsAtDepth self.now.task.case.now depth room.old }
-        requires known { AreCertified self.now.task.case.now self.now.task.bound room.old.decided }
-        ensures right { IfOk result (λ b. IsRight self.now.task.case.now self.now.task.from (spans_of (last_sides room.old))
-            self.now.task.bound depth (tree_of b)) }
-        ensures sides { room.new.sides ≡ room.old.sides }
-        ensures shape { KeepsShape room.old room.new }
-        ensures known { AreCertified self.now.task.case.now self.now.task.bound room.new.decided }
-    {
-        walks_are_placed();
-        let verdict = self.task.decide_next(room);
-        if depth == self.greatest || is_decided(verdict) {
-            return self.leaf(alloc, depth, room, verdict);
-        }
-        let axis = axis_of(self.task.case, depth, room);
-        room.take_half(axis, true);
-        let lower = self.build_at(alloc, depth + 1, room);
-        room.give_half();
-        let lower = lower?;
-        room.take_half(axis, false);
-        let upper = self.build_at(alloc, depth + 1, room);
-        room.give_half();
-        halved(alloc, axis, lower, upper?)
+    fn take_unknown(&self, _out: &mut ()) -> Result<Branch, AllocError> {
+        Ok(Branch::Unknown)
     }
 
+    fn join(&self, axis: u32, lower: Branch, upper: Branch) -> Result<Branch, AllocError> {
+        let alloc = self.alloc;
+        let lower = Box::new(alloc, lower)?;
+        let upper = Box::new(alloc, upper)?;
+        Ok(Branch::Split { axis, lower, upper })
+    }
+}
+
+impl Building<'_> {
     // The tree of the case, in a room that was made for it.
-    fn build_in(&self, alloc: Global, room: &mut Room) -> Result<Branch, AllocError>
+    fn build_in(&self, room: &mut Room) -> Result<Branch, AllocError>
         requires from { Between 1 self.now.task.case.now.w self.now.task.from }
         requires links { AreLinks self.now.task.case.now.model self.now.task.links.now }
-        requires greatest { self.now.greatest ≡ greatest_depth self.now.task.case.now }
         requires made { IsMadeFor self.now.task.case.now self.now.task.links.now room.old }
         ensures { IfOk result (λ b. IsRightTree self.now.task.case.now self.now.task.from self.now.task.bound (tree_of b)) }
     {
-        walks_are_placed();
-        rows_are_rectangles();
+        certificates_are_one();
+        lower_precisions_are_cases();
         let _ = self.task.case.w();
-        room.begin(self.task.case);
-        self.build_at(alloc, 0, room)
+        room.lanes.forget();
+        let walker = Walker {
+            case: self.task.case,
+            guide: self,
+        };
+        walker.walk(false, &mut room.sides, &mut room.lanes, &mut (), &mut ())
     }
 }
 
 /// Builds the right tree of a case, for the precisions from `from` to its own. Memory is taken for a room and for the
-/// tree.
+/// tree. The program writes trees as it walks; the tests of trees call this.
 pub fn build(
     alloc: Global,
     case: &Case,
@@ -170,15 +209,14 @@ pub fn build(
     ensures { IfOk result (λ t. IsRightTree case.now from bound (tree_of t.top)) }
 {
     let mut room = Room::make(alloc, case, links)?;
-    let greatest = case.greatest_depth();
     let task = Task {
         case: &*case,
         links: &*links,
         bound,
         from,
     };
-    let walker = Walker { task, greatest };
-    let top = walker.build_in(alloc, &mut room);
+    let building = Building { task, alloc };
+    let top = building.build_in(&mut room);
     drop(room);
     Ok(Tree { top: top? })
 }

@@ -19,11 +19,11 @@ cut_is_base : (k : CaseData) (v : ℕ) (bound : Bound) (spans : Spans) (at : ℕ
 cut_is_base k v bound spans at (accept u x) depth h = (h.accepting, h.first.between.1)
 cut_is_base k v bound spans at (reject u r) depth h = (h.rejecting, h.first.between.1)
 cut_is_base k v bound spans at unknown depth h = let last : at ≤ greatest_depth k = omega (arith, h.1) in (last, tt)
-cut_is_base k v bound spans at (split axis lower upper) zero h = let above : at ≤ greatest_depth k = omega (arith, h.0.left) in (above, tt)
+cut_is_base k v bound spans at (split axis lower upper) zero h = let above : at ≤ greatest_depth k = omega (arith, h.1.left) in (above, tt)
 cut_is_base k v bound spans at (split axis lower upper) (suc depth) h =
-    let low = cut_is_base k v bound (lower_half axis spans) (at + 1) lower depth h.1 in
-    let up = cut_is_base k v bound (upper_half axis spans) (at + 1) upper depth h.2 in
-    ((record { left = h.0.left; axis_is = h.0.axis_is }, low.0, up.0), (low.1, up.1))
+    let low = cut_is_base k v bound (lower_half axis spans) (at + 1) lower depth h.2 in
+    let up = cut_is_base k v bound (upper_half axis spans) (at + 1) upper depth h.3 in
+    ((record { left = h.1.left; axis_is = h.1.axis_is }, low.0, up.0), (low.1, up.1))
 
 pub offered : (k : CaseData) (v : ℕ) (bound : Bound) (depth : ℕ) (list : List Given) → AreGivenOfCut k v bound depth list → OffersOne (λ ahead. map given_of ahead ≡ list) k bound k.root 0
 offered k v bound depth list (t, right, e) =

@@ -7,7 +7,7 @@ use Rattle.region_tree.proofs.Goings.{lanes_kept}
 
 pub still_made : (k : CaseData) (l : LinksData) (old new : RoomData) → IsMadeFor k l old → IsAsMade old new → IsMadeFor k l new
 still_made k l old new made same = record {
-  lanes = lanes_kept k.model l old new same.rest made.lanes;
+  lanes = lanes_kept k.model l old.lanes new.lanes same.lanes made.lanes;
   sides = record {
     lane = same.sides.lanes ∙ made.sides.lane;
     words = rw same.sides.spare made.sides.words;

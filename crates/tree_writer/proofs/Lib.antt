@@ -1,3 +1,1 @@
-pub mod Texts
-pub mod Going
-pub mod Growing
+pub mod Written

@@ -1,14 +1,10 @@
 -- The text of a tree with leaves of any kind: the lines of its nodes in preorder.
 use Rattle.std.specs.Prelude.{◌≡◌, ℕ, List}
 use Rattle.lift_grid.specs.Rectangle.{Spans}
-use Rattle.corner_lift.specs.Case.{CaseData, IsInside}
+use Rattle.corner_lift.specs.Case.{CaseData}
 use Rattle.lift_walk.specs.Halved.{Halved, IsRightBy, preorder_text}
+pub use Rattle.lift_walk.specs.Bases.{LeavesAreOne}
 use Rattle.cert_text.specs.Report.{split_line, unknown_line}
-
--- a rectangle inside the root has at most one leaf that decides it, and none where it is open
-pub record LeavesAreOne {Leaf : Type 0} (k : CaseData) (decides : Spans → Leaf → Type 0) (opens : Spans → Type 0) : Type 0 where
-  pub one : (spans : Spans) (l m : Leaf) → IsInside k.root spans → decides spans l → decides spans m → l ≡ m
-  pub none : (spans : Spans) (l : Leaf) → IsInside k.root spans → decides spans l → opens spans → ⊥
 
 -- the nodes of a tree, by the lines of its leaves
 abbrev pub tree_text : {Leaf : Type 0} → (Leaf → List ℕ) → Halved Leaf → List ℕ

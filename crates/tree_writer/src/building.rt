@@ -1,55 +1,119 @@
-//! The tree of a case, built.
+//! The tree of a case, built while it is walked over.
 
-ghost use Rattle.std.specs.Prelude.{◌≡◌, ◌≤◌, IfOk};
-ghost use Rattle.lift_pool.specs.Lanes.{last_lane};
+ghost use Rattle.std.specs.List.{AllByRecursion};
+ghost use Rattle.std.specs.Prelude.{◌≡◌, [], ◌∷◌, IfOk, List, ℕ};
+ghost use Rattle.std.specs.declared.option.Option.{Option};
+ghost use Rattle.std.specs.declared.option.Option.TheVariants.{None};
+ghost use Rattle.lift_base.specs.Outside.{last_count};
+ghost use Rattle.lift_grid.specs.Rectangle.{Spans};
 ghost use Rattle.lift_pool.specs.Shapes.{IsSameShape};
-ghost use Rattle.lift_grid.specs.Rectangle.{spans_of};
-ghost use Rattle.corner_lift.specs.Case.{IsCase, greatest_depth};
-ghost use Rattle.lift_walk.specs.Sides.{IsMadeForSides, SidesStandAt};
+ghost use Rattle.lift_walk.specs.Halved.{Halved, IsRightBy};
+ghost use Rattle.lift_walk.specs.Sides.{IsMadeForSides};
+ghost use Rattle.tree_writer.specs.Text.{LeavesAreOne};
 
 use crate::grower::Grower;
-use crate::walking::{Walker, last_sides};
 use corner_lift::Case;
-use lift_grid::rows_are_rectangles;
 use lift_pool::Pool;
-use lift_walk::{axis_of, sides_go_down, take_half, write_root};
+use lift_walk::{Given, Guide, Walker};
 use std::alloc::{AllocError, Global};
 
-impl<D: Grower> Walker<'_, D> {
-    /// Builds the tree of the rectangle that the last lane of sides holds.
-    fn build_at(
+/// Builds a tree whose rectangles are decided. Its nodes go nowhere, and nothing of it is known beforehand.
+#[derive(Drop)]
+struct Builder<'a, D> {
+    decider: &'a D,
+    alloc: Global,
+}
+
+impl<D: Grower> Guide for Builder<'_, D> {
+    type Room = D::Room;
+
+    type Verdict = D::Verdict;
+
+    type Base = ();
+
+    type Out = ();
+
+    type Part = D::Branch;
+
+    type Fault = AllocError;
+
+    ghost Leaf = { D.Leaf };
+
+    ghost case = { λ b. D.case b.decider.now };
+
+    ghost decides = { λ b. D.decides b.decider.now };
+
+    ghost is_open = { λ b. D.is_open b.decider.now };
+
+    ghost may = { λ _ _ _. ⊥ };
+
+    ghost leaf = { λ b. D.leaf b.decider.now };
+
+    ghost is_ready = { λ b. D.is_ready b.decider.now };
+
+    ghost Fixed = { Unit {0} };
+
+    ghost fixed = { λ _. tt };
+
+    ghost fits = { λ _ _. Unit {0} };
+
+    ghost taken = { λ _. None };
+
+    ghost faults = { λ _. last_count };
+
+    ghost split_entry = { λ _ _ _. [] };
+
+    ghost leaf_entry = { λ _ _ _. [] };
+
+    ghost unknown_entry = { λ _ _. [] };
+
+    ghost is_part = { λ b t part. (spans : Spans) (depth : ℕ)
+        → IsRightBy (D.decides b.decider.now) (D.is_open b.decider.now) (D.case b.decider.now) spans depth t
+        → D.is_right b.decider.now spans depth part };
+
+    ghost BaseFixed = { Unit {0} };
+
+    ghost base_fixed = { λ _. tt };
+
+    ghost Rest = { List (Halved D.Leaf) };
+
+    ghost first = { λ t rest. t ∷ rest };
+
+    ghost is_ahead = { λ _ _ _ trees. AllByRecursion (λ t. t ≡ Halved.unknown) trees };
+
+    fn decide(&self, room: &mut D::Room, sides: &[i64]) -> Option<D::Verdict> {
+        self.decider.decide(room, sides)
+    }
+
+    fn next(
         &self,
-        alloc: Global,
-        depth: u32,
-        sides: &mut Pool<i64>,
-        room: &mut D::Room,
-    ) -> Result<D::Branch, AllocError>
-        requires case { IsCase self.now.case.now }
-        requires same { D.case self.now.decider.now ≡ self.now.case.now }
-        requires greatest { self.now.greatest ≡ greatest_depth self.now.case.now }
-        requires depth { depth ≤ self.now.greatest }
-        requires placed { SidesStandAt self.now.case.now depth sides.old }
-        requires ready { (made : D.Room) × D.is_ready self.now.decider.now made room.old }
-        ensures right { IfOk result (D.is_right self.now.decider.now (spans_of (last_lane sides.old.lanes)) depth) }
-        ensures sides { sides.new ≡ sides.old }
-        ensures ready { (made : D.Room) → D.is_ready self.now.decider.now made room.old
-            → D.is_ready self.now.decider.now made room.new }
-    {
-        sides_go_down();
-        match self.decider.decide(room, last_sides(sides)) {
-            Some(verdict) => return self.decider.grow_leaf(alloc, room, verdict),
-            None if depth == self.greatest => return Ok(self.decider.grow_unknown()),
-            None => {}
-        }
-        let axis = axis_of(self.case, last_sides(sides));
-        take_half(sides, axis, true);
-        let lower = self.build_at(alloc, depth + 1, sides, room);
-        sides.give_back();
-        let lower = lower?;
-        take_half(sides, axis, false);
-        let upper = self.build_at(alloc, depth + 1, sides, room);
-        sides.give_back();
-        self.decider.grow_split(alloc, axis, lower, upper?)
+        _base: &mut (),
+        _room: &mut D::Room,
+        _sides: &[i64],
+        _out: &mut (),
+    ) -> Given<Result<D::Branch, AllocError>> {
+        Given::Unknown
+    }
+
+    fn take_split(&self, _out: &mut (), _axis: u32) -> Result<(), AllocError> {
+        Ok(())
+    }
+
+    fn take_leaf(
+        &self,
+        room: &D::Room,
+        verdict: D::Verdict,
+        _out: &mut (),
+    ) -> Result<D::Branch, AllocError> {
+        self.decider.grow_leaf(self.alloc, room, verdict)
+    }
+
+    fn take_unknown(&self, _out: &mut ()) -> Result<D::Branch, AllocError> {
+        Ok(self.decider.grow_unknown())
+    }
+
+    fn join(&self, axis: u32, lower: D::Branch, upper: D::Branch) -> Result<D::Branch, AllocError> {
+        self.decider.grow_split(self.alloc, axis, lower, upper)
     }
 }
 
@@ -63,20 +127,17 @@ pub fn build_tree<D: Grower>(
     room: &mut D::Room,
 ) -> Result<D::Branch, AllocError>
     requires same { D.case decider.now ≡ case.now }
+    requires leaves { LeavesAreOne case.now (D.decides decider.now) (D.is_open decider.now) }
     requires sides { IsMadeForSides case.now sides.old }
     requires ready { D.is_ready decider.now room.old room.old }
     ensures right { IfOk result (D.is_right decider.now case.now.root 0) }
     ensures sides { IsSameShape sides.old sides.new }
     ensures ready { D.is_ready decider.now room.old room.new }
 {
-    sides_go_down();
-    rows_are_rectangles();
-    let _ = case.w();
-    write_root(case, sides);
+    let builder = Builder { decider, alloc };
     let walker = Walker {
         case: &*case,
-        decider: &*decider,
-        greatest: case.greatest_depth(),
+        guide: &builder,
     };
-    walker.build_at(alloc, 0, sides, room)
+    walker.walk(false, sides, room, &mut (), &mut ())
 }

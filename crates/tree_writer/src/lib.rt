@@ -1,12 +1,12 @@
-//! The walk over the tree of a case, whoever decides its rectangles: its nodes are written, or the tree is built.
+//! The tree of a case, whoever decides its rectangles: its nodes are written, or the tree is built.
 #![tactic(auto)]
 
 mod building;
 mod decider;
 mod grower;
-mod walking;
+mod writing;
 
 pub use building::build_tree;
 pub use decider::Decider;
 pub use grower::Grower;
-pub use walking::write_tree;
+pub use writing::write_tree;

@@ -1,6 +1,5 @@
 use Rattle.lift_grid.specs.Rectangle.{spans_of}
-use Rattle.region_tree.specs.Rooms.{last_sides}
 use Rattle.region_tree.proofs.task.Task.decide_next.Given as goal
 
 abbrev pub ghost-decide_by : goal.ghost-decide_by
-ghost-decide_by a = spans_of (last_sides a.room.now)
+ghost-decide_by a = spans_of a.sides.now

@@ -1,0 +1,26 @@
+use Rattle.std.proofs.Common.{[], refl, ap, sym, subst, arith}
+use Rattle.lift_walk.specs.Halved.{Halved}
+use Rattle.region_tree.specs.Built.{tree_of}
+use Rattle.region_tree.specs.Rooms.{RoomData, HasLanes}
+use Rattle.region_tree.proofs.Goings.{ready_at_first}
+use Rattle.region_tree.proofs.Shown.{leaves_are_one, right_built}
+use Rattle.region_tree.proofs.tree.Building.build_in.Goals as goal
+
+pub walk-requires-clause-leaves : goal.walk-requires-clause-leaves
+walk-requires-clause-leaves c =
+    let task = c.args.self.now.task in
+    leaves_are_one c.certificates_are_one.ensures.least c.lower_precisions_are_cases.ensures c.certificates_are_one.ensures.greatest task.case.now task.from task.bound c.w.ensures.case c.requires.from.0
+
+pub walk-requires-clause-ready : goal.walk-requires-clause-ready
+walk-requires-clause-ready c =
+    let task = c.args.self.now.task in
+    let has = subst (HasLanes task.case.now.model task.links.now) (sym (ap (λ (r : RoomData). r.lanes) c.room.view_is)) c.requires.made.lanes in
+    rw c.forget.ensures (ready_at_first task.case.now task.links.now task.bound task.from c.room.inside.lanes c.requires.links c.requires.from has)
+
+pub walk-requires-clause-base : goal.walk-requires-clause-base
+walk-requires-clause-base c = (Halved.unknown, ([], record { ahead = tt; none = λ _. refl; base = omega arith }))
+
+pub returns : goal.returns
+returns c =
+    let task = c.args.self.now.task in
+    right_built task.case.now task.from task.bound tree_of _ _ _ _ _ c.walk.result (c.walk.ensures.walks Halved.unknown [] (record { ahead = tt; none = λ _. refl; base = omega arith })).0

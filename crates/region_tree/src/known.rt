@@ -1,0 +1,129 @@
+//! A visitor is shown the nodes of a tree that goes on from another one.
+
+ghost use Rattle.std.specs.Prelude.{◌≡◌, ◌++◌, List, ℕ};
+ghost use Rattle.corner_lift.specs.Case.{IsCase};
+ghost use Rattle.region_tree.specs.Nodes.{Node, nodes};
+ghost use Rattle.region_tree.specs.Nodes.Node.{split, unknown};
+ghost use Rattle.region_tree.specs.Right.{Decides, Decision, IsOpen, tree_from};
+ghost use Rattle.region_tree.specs.Walking.{AreReady, IsVisitorOf, MayStand, VisitorData, leaf_in, node_of};
+
+use crate::base::{self, Base, Copier};
+use crate::leaf::Found;
+use crate::room::Lanes;
+use crate::showing::{Unkept, kept};
+use crate::task::Task;
+use lift_range::certificates_double;
+use lift_walk::{Given, Guide};
+use std::marker::PhantomData;
+
+/// Shows a visitor the nodes of a tree that goes on from the one that a base gives.
+#[derive(Drop)]
+pub(crate) struct Going<'a, B, V> {
+    pub(crate) task: Task<'a>,
+    pub(crate) base: PhantomData<B>,
+    pub(crate) visitor: PhantomData<V>,
+}
+
+impl<B: Base, V: Copier> Guide for Going<'_, B, V> {
+    type Room = Lanes;
+
+    type Verdict = Found;
+
+    type Base = B;
+
+    type Out = V;
+
+    type Part = ();
+
+    type Fault = Unkept;
+
+    ghost Leaf = { Decision };
+
+    ghost case = { λ s. s.task.case.now };
+
+    ghost decides = { λ s. Decides s.task.case.now s.task.from s.task.bound };
+
+    ghost is_open = { λ s spans. IsOpen s.task.case.now s.task.from spans s.task.bound };
+
+    ghost may = { λ s. MayStand s.task.case.now s.task.bound };
+
+    ghost leaf = { λ _ lanes found. leaf_in lanes.pools found };
+
+    ghost is_ready = { λ s. AreReady s.task.case.now s.task.links.now s.task.bound s.task.from };
+
+    ghost Fixed = { VisitorData };
+
+    ghost fixed = { λ v. record {
+      states = V.states v;
+      precision = V.precision v;
+      entry = V.entry v;
+      reference = V.reference v;
+    } };
+
+    ghost fits = { λ s v. IsCase s.task.case.now × IsVisitorOf s.task.case.now v };
+
+    ghost taken = { V.taken };
+
+    ghost faults = { V.faults };
+
+    ghost split_entry = { λ _ v axis. v.entry (split axis) };
+
+    ghost leaf_entry = { λ _ v l. v.entry (node_of l) };
+
+    ghost unknown_entry = { λ _ v. v.entry unknown };
+
+    ghost is_part = { λ _ _ _. Unit {0} };
+
+    ghost BaseFixed = { Node → List ℕ };
+
+    ghost base_fixed = { B.entry };
+
+    ghost Rest = { List Node };
+
+    ghost first = { λ t rest. nodes (tree_from t) ++ rest };
+
+    ghost is_ahead = { λ _ base v rest. B.is_ahead base rest × ((node : Node) → B.entry base node ≡ v.entry node) };
+
+    fn decide(&self, room: &mut Lanes, sides: &[i64]) -> Option<Found> {
+        self.task.find(room, sides)
+    }
+
+    fn next(
+        &self,
+        base: &mut B,
+        room: &mut Lanes,
+        sides: &[i64],
+        out: &mut V,
+    ) -> Given<Result<(), Unkept>> {
+        certificates_double();
+        let _ = self.task.case.w();
+        match base.next() {
+            base::Given::Split(axis) => Given::Split(axis),
+            base::Given::Accept => {
+                room.decided.note_accepted(sides);
+                Given::Leaf(kept(out.copy(base.bytes())))
+            }
+            base::Given::Reject => {
+                room.decided.note_rejected(sides);
+                Given::Leaf(kept(out.copy(base.bytes())))
+            }
+            base::Given::Unknown => Given::Unknown,
+        }
+    }
+
+    fn take_split(&self, out: &mut V, axis: u32) -> Result<(), Unkept> {
+        kept(out.split(axis))
+    }
+
+    fn take_leaf(&self, room: &Lanes, verdict: Found, out: &mut V) -> Result<(), Unkept> {
+        self.task.show(room, verdict, out)
+    }
+
+    fn take_unknown(&self, out: &mut V) -> Result<(), Unkept> {
+        kept(out.unknown())
+    }
+
+    fn join(&self, _axis: u32, _lower: (), _upper: ()) -> Result<(), Unkept> {
+        Ok(())
+    }
+}
