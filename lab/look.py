@@ -85,7 +85,7 @@ class Browser:
             if answer.get('id') == self._count:
                 if 'error' in answer:
                     sys.exit('%s: %s' % (method, answer['error']))
-                return answer['result']
+                return dict(answer['result'])
 
     def tell(self, script: str) -> Any:
         """What a script of the page comes to."""

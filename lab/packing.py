@@ -13,7 +13,7 @@ from typing import Any, Optional
 HERE = Path(__file__).resolve().parent
 PACKAGE = HERE / 'plift_lab'
 NAME = 'plift_lab'
-VERSION = re.search("^MADE = '([^']+)'", (PACKAGE / 'version.py').read_text('utf-8'), re.M).group(1)
+VERSION = re.findall("^MADE = '([^']+)'", (PACKAGE / 'version.py').read_text('utf-8'), re.M)[0]
 INFO = '%s-%s.dist-info' % (NAME, VERSION)
 TOLD = {
     'METADATA': 'Metadata-Version: 2.1\nName: plift-lab\nVersion: %s\nLicense: MIT\nRequires-Python: >=3.8\n'

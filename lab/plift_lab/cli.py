@@ -6,7 +6,7 @@ import argparse
 import sys
 from typing import List, Optional
 
-from . import __version__
+from .version import VERSION as __version__
 from .commands import bounds, explain, fit, leaves, picture, threshold, verdict, verify, view
 from .ends import Tool, say
 from .faults import INTERRUPTED, Fault, Refused
@@ -70,7 +70,7 @@ def _run(words: Optional[List[str]]) -> int:
     given = parser().parse_args(words)
     if not given.command:
         raise Fault('name a command: %s' % ', '.join(COMMANDS))
-    return COMMANDS[given.command].run(given)
+    return int(COMMANDS[given.command].run(given))
 
 
 def _hint(fault: Fault) -> None:

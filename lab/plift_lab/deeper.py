@@ -2,7 +2,6 @@
 
 from __future__ import annotations
 
-from fractions import Fraction
 from pathlib import Path
 from typing import Iterable, Iterator, List, Optional, Protocol
 
@@ -21,10 +20,10 @@ models whose rectangles are dear, where it was two to five."""
 
 
 class Asker(Protocol):
-    """Writes the program's report of a region, a bound and a depth to a file, and returns how many seconds that
-    took."""
+    """Writes the program's report of a region and a depth to a file, maybe with a bound that everything keeps to, and
+    returns how many seconds that took."""
 
-    def __call__(self, region: Region, bound: Fraction, depth: int, report: Path) -> float:
+    def __call__(self, region: Region, depth: int, report: Path, is_open: bool = False) -> float:
         ...
 
 
@@ -40,7 +39,7 @@ class Deepening:
         """Writes the report. Where all was asked at once it returns how many seconds that took."""
         parts = self._parts(report)
         if [part.depth for part in parts] == [0]:
-            return self._ask(self._region, self.base.bound, self.depth, report)
+            return self._ask(self._region, self.depth, report)
         self._require_room(report)
         try:
             with writing(report), fresh(report) as out:
@@ -57,10 +56,10 @@ class Deepening:
         return cheapest_parts(self.base, start + COLD * rectangle, rectangle)
 
     def _require_room(self, report: Path) -> None:
-        """Asks for the whole with the bound 1, which the first rectangle answers: where the rows have no room at this
-        depth that is refused before any part is asked."""
-        if not self._is_admitted:
-            self.pace.note(1, 1, self._ask(self._region, Fraction(1), self.depth, report))
+        """Asks for the whole with a bound that the first rectangle keeps to: where the rows have no room at this depth
+        that is refused before any part is asked. Costs may be above each cap, which no rectangle would keep to."""
+        if not self._is_admitted and self.base.form.reward is None:
+            self.pace.note(1, 1, self._ask(self._region, self.depth, report, is_open=True))
             self._is_admitted = True
 
     def _trees(self, parts: List[Part], report: Path) -> Iterator[Iterator[bytes]]:
@@ -69,9 +68,9 @@ class Deepening:
         try:
             for part in parts:
                 levels = self.depth - part.depth
-                self._ask(self._region_of(part.ends), self.base.bound, levels, answer)
+                self._ask(self._region_of(part.ends), levels, answer)
                 with open(answer, 'rb') as lines:
-                    yield tree_lines(lines, head.of_part(part.ends, levels).text)
+                    yield tree_lines(lines, head.of_part(part.ends, levels).text, self.base)
         finally:
             if answer.exists():
                 answer.unlink()

@@ -3,23 +3,20 @@
 from __future__ import annotations
 
 from dataclasses import dataclass, replace
-from fractions import Fraction
 from functools import reduce
 from math import gcd
-from typing import Optional, Tuple
+from typing import Tuple
 
 from .report import Report
 
 
 @dataclass(frozen=True)
 class Head:
-    """The lines of a report above its tree: the model, and what is asked of it."""
+    """The lines of a report above its tree."""
 
     model: bytes
-    bound: Fraction
-    precision: int
-    least: Optional[int]
-    """The least precision of version 2; none in version 1."""
+    asked: bytes
+    """What is asked of it, down to the precision."""
     depth: int
     grid: int
     box: Tuple[int, ...]
@@ -27,8 +24,7 @@ class Head:
     @classmethod
     def of(cls, report: Report) -> 'Head':
         """That of a report."""
-        least = report.least_precision if report.version == 2 else None
-        return cls(report.model_lines, report.bound, report.precision, least, report.depth, report.grid, report.box)
+        return cls(report.model_lines, report.asked_lines, report.depth, report.grid, report.box)
 
     def at(self, depth: int) -> 'Head':
         """That of the same job at another depth: the grid is the finer the deeper it is."""
@@ -45,7 +41,5 @@ class Head:
     @property
     def text(self) -> bytes:
         """As it is written."""
-        asked = ['bound %d/%d' % (self.bound.numerator, self.bound.denominator), 'precision %d' % self.precision]
-        asked += [] if self.least is None else ['from %d' % self.least]
-        asked += ['depth %d' % self.depth, 'grid %d' % self.grid, ' '.join(['box', *map(str, self.box)])]
-        return self.model + ''.join('%s\n' % line for line in asked).encode()
+        lines = 'depth %d' % self.depth, 'grid %d' % self.grid, ' '.join(['box', *map(str, self.box)])
+        return self.model + self.asked + ''.join('%s\n' % line for line in lines).encode()

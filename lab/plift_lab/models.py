@@ -9,7 +9,7 @@ from __future__ import annotations
 import re
 from dataclasses import dataclass
 from fractions import Fraction
-from typing import Callable, Dict, Iterator, List, NamedTuple, Tuple
+from typing import Callable, Dict, Iterator, List, NamedTuple, Optional, Tuple
 
 from .plain import plain
 from .regions import Region
@@ -19,8 +19,17 @@ SYMBOL = re.compile(rb'[0-9]+(?:\.[0-9]+)?(?:[eE][+-]?[0-9]+)?|[A-Za-z_][A-Za-z0
 GROUP = re.compile(rb'\[[^\]]*\]')
 WORD = re.compile(rb'"([^"]*)"|([^ \t"]+)')
 VALUED = re.compile(rb'([ \t]*(?:[0-9]+|\$[A-Za-z0-9_]+)[ \t]*:)(.*)', re.S)
+BETWEEN = '// Steps in between: %s'
+ALIKE, UNLIKE = 'each step is %d steps', 'a step is one step or more'
+"""What `plift-lab fit` writes into the second line of a text with such steps."""
+COUNTED = re.compile(rb'// [^\n]*\n' + BETWEEN.encode() % rb'(?:each step is ([0-9]{1,9}) |a step is one )')
 Scale = Dict[str, Tuple[Fraction, Fraction]]
 """For each parameter p of a rescaled model the ends between which low + (high - low) p runs."""
+
+
+def between_line(each: Optional[int]) -> str:
+    """The line of a text with steps in between, of which each step of the text before has so many, or not as many."""
+    return BETWEEN % (UNLIKE if each is None else ALIKE % each)
 
 
 def _lines(text: bytes) -> Iterator[Tuple[str, bytes]]:
@@ -55,6 +64,12 @@ class Model:
             if what == 'names':
                 return [plain(name) for name in line.split()]
         return []
+
+    @property
+    def steps_of_each(self) -> Optional[int]:
+        """How many steps a step of the text is that `plift-lab fit` made this of; none where they aren't alike."""
+        found = COUNTED.match(self.text)
+        return 1 if found is None else None if found.group(1) is None else int(found.group(1))
 
     def _changed(self, terms: Dict[bytes, bytes], is_kept: Callable[[bytes], bool]) -> 'Model':
         def value(line: bytes) -> bytes:

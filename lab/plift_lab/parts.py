@@ -2,7 +2,7 @@
 
 Below a rectangle the tree of a report is the one that the rectangle has when it is asked by itself, to the depth that
 is left: what is asked of a certificate knows neither the root nor the grid. So the joined report has the bytes of a
-single `verify` at that depth, whichever parts were asked. `plift check` judges it as any other.
+single answer at that depth, whichever parts were asked. It is judged as any other.
 """
 
 from __future__ import annotations
@@ -89,8 +89,8 @@ def cut(report: Report, depth: int) -> Iterator[bytes]:
             yield b'unknown\n' if is_open else report.data[start:end]
 
 
-def tree_lines(report: BinaryIO, head: bytes) -> Iterator[bytes]:
-    """The lines of the tree of a report that has the head that is due, and is whole."""
+def tree_lines(report: BinaryIO, head: bytes, base: Report) -> Iterator[bytes]:
+    """The lines of the tree of a report, of the form of another one, that has the head that is due, and is whole."""
     begin = report.read(len(head))
     if not head.startswith(begin):
         raise Unfit('isn\'t of this job')
@@ -98,7 +98,7 @@ def tree_lines(report: BinaryIO, head: bytes) -> Iterator[bytes]:
     for line in report:
         if due == 0:
             raise Unfit('has something behind its last node')
-        rest = [report.readline() for _ in range(3)] if line.startswith(b'reject ') else []
+        rest = [report.readline() for _ in range(base.lines_below(line))]
         if not line.startswith(b'at '):
             due += 1 if line.startswith(b'split ') else -1
         if not all(each.endswith(b'\n') for each in [line, *rest]):

@@ -18,6 +18,8 @@ from .faults import LOST, WRITING, Fault, Refused
 from .outputs import fresh, unwritten
 from .plain import plain
 
+Watch = Callable[[Path, int], None]
+"""Is called with a growing report and the number of the process that writes it."""
 CHECKOUT = Path(__file__).resolve().parent.parent.parent
 """The repository's folder, where this package lies in one."""
 BUILT, QUICK = CHECKOUT / 'crates/plift/out/plift', CHECKOUT / 'build/quick/plift'
@@ -62,14 +64,12 @@ class Program:
         """Who judges: a command of this program, and whether it was built without proofs."""
         return '%s %s%s' % (self.path, command, ', built without proofs' if self.is_unproved else '')
 
-    def verify(
-        self, words: List[str], model: Path, report: Path, watch: Optional[Callable[[Path], None]] = None
-    ) -> float:
+    def verify(self, words: List[str], model: Path, report: Path, watch: Optional[Watch] = None) -> float:
         """Writes the report of a model to a file, and returns how many seconds of the processor that took. While it
-        runs, `watch` is called with that file now and then."""
+        runs, `watch` is called with that file and the number of its process now and then."""
         before = _spent()
         with open(model, 'rb') as source, _new(report) as sink, self._running(words, source, sink) as process:
-            note = ended(process, partial(watch, report) if watch else None)[1]
+            note = ended(process, partial(watch, report, process.pid) if watch else None)[1]
         if process.returncode:
             raise Refused(process.returncode, _line(note) + _why_full(process, report), words, model.read_bytes())
         return _spent() - before
@@ -84,7 +84,9 @@ class Program:
         return _line(line)
 
     @contextlib.contextmanager
-    def _running(self, words: List[str], source: IO[bytes], sink: Union[BinaryIO, int]) -> Iterator[subprocess.Popen]:
+    def _running(
+        self, words: List[str], source: IO[bytes], sink: Union[BinaryIO, int]
+    ) -> Iterator[subprocess.Popen[bytes]]:
         """The program at work, which is ended behind it, whatever happened."""
         process = None
         try:
@@ -95,7 +97,7 @@ class Program:
             if process is not None:
                 _end(process)
 
-    def _start(self, words: List[str], source: IO[bytes], sink: Union[BinaryIO, int]) -> subprocess.Popen:
+    def _start(self, words: List[str], source: IO[bytes], sink: Union[BinaryIO, int]) -> subprocess.Popen[bytes]:
         try:
             return subprocess.Popen([str(self.path)] + words, stdin=source, stdout=sink, stderr=subprocess.PIPE)
         except (OSError, ValueError) as fault:
@@ -122,7 +124,7 @@ def _signals_held() -> Iterator[None]:
             signal.raise_signal(number)
 
 
-def ended(process: subprocess.Popen, watch: Optional[Callable[[], None]] = None) -> Tuple[bytes, bytes]:
+def ended(process: subprocess.Popen[bytes], watch: Optional[Callable[[], None]] = None) -> Tuple[bytes, bytes]:
     """What a process writes until it ends. It is waited for by short times, for a signal that comes just before a wait
     doesn't end that."""
     while True:
@@ -133,7 +135,7 @@ def ended(process: subprocess.Popen, watch: Optional[Callable[[], None]] = None)
                 watch()
 
 
-def _end(process: subprocess.Popen) -> None:
+def _end(process: subprocess.Popen[bytes]) -> None:
     """Leaves no process behind, whatever happened."""
     if process.poll() is None:
         process.kill()
@@ -161,7 +163,7 @@ def _new(report: Path) -> BinaryIO:
         raise unwritten(report, error) from None
 
 
-def _why_full(process: subprocess.Popen, report: Path) -> str:
+def _why_full(process: subprocess.Popen[bytes], report: Path) -> str:
     """What the system says where the program could write no more."""
     if process.returncode == WRITING:
         try:

@@ -3,15 +3,21 @@
 from __future__ import annotations
 
 import contextlib
+import os
 import sys
 import time
 from pathlib import Path
-from typing import Callable, Iterator, List, Optional, Sequence, Tuple
+from typing import TYPE_CHECKING, Iterator, List, Optional, Sequence, Tuple
 
 from .ends import say
 
+if TYPE_CHECKING:
+    from .program import Watch
+
 EARLIEST = 5
 """Seconds before which no time is told that may be left."""
+CHECKED, RECHECKED = 1.5e8, 2e6
+"""Bytes that `plift check` and that recheck.py judge in a second of a processor, as they were measured."""
 LEAST_SHARE = 0.05
 """Of the work that is done by then."""
 
@@ -38,19 +44,27 @@ class Progress:
         yield
         self._span = None
 
-    def watcher(self) -> Optional[Callable[[Path], None]]:
-        """What is called with the growing report while the program runs."""
+    def watcher(self, pace: float = CHECKED) -> 'Optional[Watch]':
+        """What is called with the growing report while the program runs; so many bytes of it are judged in a second."""
         if not self.is_on:
             return None
         follower = Follower()
 
-        def watch(path: Path) -> None:
+        def watch(path: Path, process: int) -> None:
             if self._is_due():
-                self._tell(follower.settled(path) if self._span else None)
+                settled = follower.settled(path) if self._span else None
+                self._tell(settled, follower.size / pace * slowness(process))
 
         return watch
 
-    def _tell(self, inner: Optional[float]) -> None:
+    def judging(self) -> None:
+        """Tells that a report is whole and is judged now."""
+        if self.is_on and self._share and self._is_due():
+            self._put('%s, and is judged now' % self._settled)
+
+    def _tell(self, inner: Optional[float], judging: float) -> None:
+        """Tells what share of a report's region is settled, and how long all is likely to take, when judging what there
+        is of it takes so long."""
         spent = time.monotonic() - self._begin
         if not inner and not self._share or inner is None or self._span is None:  # a short report comes at once
             self._put('%s%s so far' % (self.text + '; ' if self.text else '', seconds_shown(spent)))
@@ -58,8 +72,19 @@ class Progress:
         low, high = self._span
         self._share = max(self._share, low + (high - low) * inner)
         left = self._past.left(spent, self._share)
+        if left is not None:
+            left += judging / inner * (1 - low) / (high - low)
         told = '' if left is None else ', some %s left' % seconds_shown(left)
-        self._put('%.1f %% of the region is settled after %s%s' % (100 * self._share, seconds_shown(spent), told))
+        self._put('%s after %s%s' % (self._settled, seconds_shown(spent), told))
+
+    @property
+    def _settled(self) -> str:
+        return '%.1f %% of the region is settled' % (100 * self._share)
+
+    @property
+    def known(self) -> str:
+        """What is known so far, for who stops the job; nothing where nothing was told."""
+        return self.text or (self._settled if self._share else '')
 
     def say(self, text: str) -> None:
         """Keeps what is known so far, and tells it, unless something was told just before."""
@@ -81,6 +106,19 @@ class Progress:
         if self.is_terminal:
             self._width = max(self._width, len(text))
         say('\r' + text.ljust(self._width) if self.is_terminal else text, '' if self.is_terminal else '\n')
+
+
+def slowness(process: int) -> float:
+    """How many seconds pass for each that a process gets of a processor; 1 where that can't be told."""
+    try:
+        with open('/proc/%d/stat' % process, encoding='ascii', errors='replace') as source:
+            words = source.read().rpartition(')')[2].split()
+        with open('/proc/uptime', encoding='ascii') as source:
+            passed = float(source.read().split()[0]) - int(words[19]) / os.sysconf('SC_CLK_TCK')
+        used = (int(words[11]) + int(words[12])) / os.sysconf('SC_CLK_TCK')
+    except (OSError, ValueError, IndexError):
+        return 1.0
+    return max(1.0, passed / used) if used else 1.0
 
 
 class Past:
@@ -115,6 +153,11 @@ class Follower:
         self._place, self._rest, self._is_head, self._share = 0, b'', True, 0.0
         self.leaves = 0
         self._due = [1.0]
+
+    @property
+    def size(self) -> int:
+        """Bytes that were read."""
+        return self._place
 
     def settled(self, path: Path) -> float:
         """Reads what has come since it was called last."""

@@ -31,6 +31,8 @@ HEADS = {
 ASKED = re.compile(r'\n(?=bound |property |cost )')
 ACCEPT, REJECT, UNKNOWN = 'accept', 'reject', 'unknown'
 KINDS = (ACCEPT, REJECT, UNKNOWN)
+CERTIFIED = {b'accept': ACCEPT, b'holds': ACCEPT, b'reject': REJECT, b'fails': REJECT}
+"""The first words of certificates."""
 PAST = {ACCEPT: 'accepted', REJECT: 'rejected', UNKNOWN: 'unknown'}
 
 
@@ -132,6 +134,7 @@ class Report:
         if asked is None:
             raise ValueError('nothing is asked')
         self._model_end = asked.end()
+        self._asked_end = head.index('\ndepth ', self._model_end) + 1
         around = head[: self._model_begin] + head[self._model_end :]
         lines = dict(line.partition(' ')[::2] for line in around.splitlines())
         self.kind, self.parameters = lines['kind'], lines['parameters'].split()[1:]
@@ -184,8 +187,7 @@ class Report:
             elif is_begun:
                 bits = int(line[3:])
             else:
-                kind = ACCEPT if key in (b'accept', b'holds') else REJECT
-                stop = self._read_certificate(kind, line, stop, bits)
+                stop = self._read_certificate(CERTIFIED[line.partition(b' ')[0]], line, stop, bits)
             start = stop + 1
 
     def _read_certificate(self, kind: str, line: bytes, stop: int, bits: int) -> int:
@@ -203,6 +205,11 @@ class Report:
             kind, int(word), self._schedulers.setdefault(choices, len(self._schedulers)) if choices else None, bits
         )
         return stop
+
+    def lines_below(self, line: bytes) -> int:
+        """How many lines belong to a node's first line."""
+        kind = CERTIFIED.get(line.partition(b' ')[0].rstrip())
+        return 0 if kind is None else self._lines_below(kind)
 
     def _lines_below(self, kind: str) -> int:
         """How many lines a certificate has below its first one."""
@@ -223,6 +230,11 @@ class Report:
     def model_lines(self) -> bytes:
         """The lines of the head down to the last row."""
         return self.data[: self._model_end]
+
+    @property
+    def asked_lines(self) -> bytes:
+        """The lines of the head behind the last row down to the precision."""
+        return self.data[self._model_end : self._asked_end]
 
     @cached_property
     def choices(self) -> List[int]:
@@ -304,7 +316,7 @@ class Report:
     @property
     def counts(self) -> Dict[Tuple[str, int], int]:
         """How many leaves there are of a kind, below so many splits."""
-        counts: Counter = Counter()
+        counts: Counter[Tuple[str, int]] = Counter()
         due = [0]
         for node in self.nodes:
             depth = due.pop()

@@ -8,7 +8,7 @@ from dataclasses import dataclass, replace
 from fractions import Fraction
 from functools import lru_cache
 from pathlib import Path
-from typing import Any, Callable, Dict, List, Optional, Tuple
+from typing import Any, Dict, List, Optional, Tuple
 
 from .deeper import Deepening
 from .evidence import Evidence, digest, read_file, read_origin
@@ -20,8 +20,8 @@ from .origin import Origin
 from .outputs import fresh, writing
 from .pace import Pace
 from .parts import cut
-from .program import MOST_CHECKED_BYTES, find_program
-from .progress import Progress
+from .program import MOST_CHECKED_BYTES, Watch, find_program
+from .progress import CHECKED, RECHECKED, Progress
 from .regions import Region
 from .report import Report
 
@@ -53,6 +53,22 @@ class Question:
     def prepared(self) -> Tuple[Model, Region, Scale]:
         """The model and the region as they are given to the program, and what its numbers mean."""
         return _prepared(self.model, self.region, self.is_relative)
+
+    def require_countable(self) -> None:
+        """Refuses a number of steps where `plift-lab fit` counted steps anew, and it doesn't fit."""
+        steps, each = self.form.steps, self.model.steps_of_each
+        if steps is None or each is not None and steps % each == 0:
+            return
+        about = 'not alike many for each step, so within a number of steps is another question of this text'
+        if each is not None:
+            about = 'so that each step is %d: F<=S of the model before is F<=%d*S here' % (each, each)
+        raise Fault('`plift-lab fit` has put steps in between, %s (plift itself can\'t know, and answers)' % about)
+
+    @property
+    def opened(self) -> 'Question':
+        """The same with a bound that everything keeps to."""
+        form = self.form.of('>=' if self.form.is_of_least else '<=')
+        return replace(self, form=form, bound=Fraction(0 if form.is_of_least else form.unit))
 
     def words(self, region: Region, precision: int) -> List[str]:
         """The program's command line."""
@@ -118,13 +134,14 @@ class Session:
         return self
 
     def __exit__(self, kind: Any, fault: Any, _: Any) -> None:
-        if isinstance(fault, KeyboardInterrupt) and self.progress.text:
-            fault.args = (fault.args[0] if fault.args else None, 'so far: ' + self.progress.text)
+        if isinstance(fault, KeyboardInterrupt) and self.progress.known:
+            fault.args = (fault.args[0] if fault.args else None, 'so far: ' + self.progress.known)
         self.progress.clear()
         self.evidence.close(self.is_lasting)
 
     def ask(self, question: Question) -> Report:
         """The report that answers a question, once `plift check` has called it sound."""
+        question.require_countable()
         model, region, scale = question.prepared()
         path = self.evidence.model_file(model.text)
         bits = question.precision if question.precision else self._room.get(path.name, MOST_BITS)
@@ -140,8 +157,6 @@ class Session:
     def deepen(self, question: Question, base: Report) -> Report:
         """The same, from a report of the same question at a smaller depth: what is decided there is asked again only
         where that takes less time. The bytes are those of `ask`."""
-        if question.form.command != 'verify':
-            return self.ask(question)
         model, region, scale = question.prepared()
         job = Job(question, self.evidence.model_file(model.text), region, scale, base.precision)
         try:
@@ -153,8 +168,6 @@ class Session:
 
     def shorten(self, question: Question, base: Report) -> Report:
         """The same, from a report of the same question at a greater depth: nothing is asked of a report."""
-        if question.form.command != 'verify':
-            return self.ask(question)
         model, region, scale = question.prepared()
         return self._run(Job(question, self.evidence.model_file(model.text), region, scale, base.precision), base)
 
@@ -167,6 +180,7 @@ class Session:
         try:
             seconds = self._write(job, base, part)
             data = read_file(str(part), MOST_CHECKED_BYTES)
+            self.progress.judging()
             verdict = self.judge.judge(data)
             with writing(path):
                 part.replace(path)
@@ -195,25 +209,28 @@ class Session:
         """Writes a job's report, from one at another depth if there is one. Returns how many seconds that took, where
         all was asked at once."""
         if base is None:
-            return self._run_program(job.origin.words, job.model, report, self.progress.watcher())
+            return self._run_program(job.origin.words, job.model, report, self._watcher(job))
         if base.depth >= job.question.depth:
             with writing(report), fresh(report) as out:
                 out.writelines(cut(base, job.question.depth))
             return None
 
-        def ask(region: Region, bound: Fraction, depth: int, report: Path) -> float:
-            words = replace(job.question, bound=bound, depth=depth).words(region, job.bits)
-            return self._run_program(words, job.model, report, self.progress.watcher())
+        def ask(region: Region, depth: int, report: Path, is_open: bool = False) -> float:
+            question = job.question.opened if is_open else job.question
+            words = replace(question, depth=depth).words(region, job.bits)
+            return self._run_program(words, job.model, report, self._watcher(job))
 
         return Deepening(base, job.question.depth, self._pace(job), ask).write(report)
+
+    def _watcher(self, job: Job) -> Optional[Watch]:
+        """What is called while the program writes the answer of a job."""
+        return self.progress.watcher(CHECKED if job.question.form.command == 'verify' else RECHECKED)
 
     def allow(self, calls: int) -> None:
         """Lets the program be started so often from now on."""
         self._left = calls
 
-    def _run_program(
-        self, words: List[str], model: Path, report: Path, watch: Optional[Callable[[Path], None]]
-    ) -> float:
+    def _run_program(self, words: List[str], model: Path, report: Path, watch: Optional[Watch]) -> float:
         """Starts the program, if that is still allowed."""
         if self._left <= 0:
             raise Spent('as many questions were asked as --calls allows')

@@ -16,8 +16,9 @@ from pathlib import Path
 from typing import Any, Dict, Tuple
 from unittest import mock
 
-from plift_lab.evidence import Evidence, write_file
+from plift_lab.evidence import Evidence
 from plift_lab.faults import Fault
+from plift_lab.outputs import write_file
 from plift_lab.program import find_program
 
 from .helpers import EXAMPLES, LINKS, RANGE, RETRY, TOP, TREE, InFolder, run
@@ -185,7 +186,7 @@ class View(InFolder):
     def data(self, *words: str) -> Tuple[str, Dict[str, Any]]:
         status, page, _ = run('view', *words)
         self.assertEqual(status, 0)
-        return page, json.loads(re.search('<script type="application/json" id="data">(.*)</script>', page).group(1))
+        return page, json.loads(re.findall('<script type="application/json" id="data">(.*)</script>', page)[0])
 
     def test_data(self) -> None:
         page, data = self.data(TREE)
@@ -220,7 +221,7 @@ class View(InFolder):
     @unittest.skipUnless(shutil.which('node'), 'needs node')
     def test_its_tree_finds_the_same_leaves(self) -> None:
         page, data = self.data(TREE)
-        script = re.search(r'<script>\n(.*?)class Plot', page, re.S).group(1)
+        script = re.findall(r'<script>\n(.*?)class Plot', page, re.S)[0]
         told = json.loads(run('leaves', TREE, '--json')[1])
         ends = [[Fraction(end) for end in leaf['rectangle'][name]] for leaf in told['leaves'] for name in ('p', 'q')]
         units = [[int((end - Fraction(1, 10)) / Fraction(2, 5) * 2**20) for end in pair] for pair in ends]
@@ -371,7 +372,7 @@ class Mistakes(InFolder):
         for path in places.values():
             self.file(path.name, b'#!/bin/sh\n')
             path.chmod(0o755)
-        patched = {name: path for name, path in places.items() if name != 'plift'}
+        patched: Dict[str, Any] = {name: path for name, path in places.items() if name != 'plift'}
         with mock.patch.multiple('plift_lab.program', **patched), mock.patch.dict(
             os.environ, {'PATH': str(self.folder)}
         ):

@@ -1,4 +1,4 @@
-"""Reports that are taken deeper: whichever parts are asked again, the bytes are those of a single `verify`."""
+"""Reports that are taken deeper: whichever parts are asked again, the bytes are those of a single answer."""
 
 import unittest
 from contextlib import contextmanager
@@ -11,13 +11,15 @@ from unittest import mock
 from plift_lab.cover import cover, levels_due
 from plift_lab.deeper import Deepening
 from plift_lab.faults import Fault, Refused
+from plift_lab.forms import read_formula
+from plift_lab.evidence import read_file
 from plift_lab.models import Model
 from plift_lab.pace import Pace
 from plift_lab.parts import cheapest_parts, unknown_parts
 from plift_lab.program import MOST_CHECKED_BYTES, Program
 from plift_lab.regions import Region
 from plift_lab.report import Report
-from plift_lab.session import Question, Session, read_file
+from plift_lab.session import Question, Session
 
 from .helpers import EXAMPLES, RANGE, TREE, InFolder, run
 
@@ -47,6 +49,22 @@ def questions() -> Iterator[Question]:
         yield replace(question, is_relative=True, least_precision=1)
 
 
+def formulas() -> Iterator[Question]:
+    """Questions whose answers are texts of `property`, `bounded` and `cost`."""
+    for name, formula, cap in (
+        ('retry.drn', 'P>=24/25 [F "delivered"]', None),
+        ('retry.drn', 'P<1/20 [F "lost"]', None),
+        ('coin.drn', 'P>1/3 [F "heads"]', None),
+        ('retry.drn', 'P<=1/2 [F<=2 "lost"]', None),
+        ('retry.drn', 'P<=1/40 [F<=3 "lost"]', None),
+        ('sends.drn', 'R{"sends"}<=7/5 [F "done"]', 3),
+    ):
+        asked = read_formula(formula, cap)
+        region = 'p=1/10..9/10' if name == 'coin.drn' else REGION
+        model = Model((EXAMPLES / name).read_bytes())
+        yield Question(model, asked.goal, asked.bound or Fraction(0), Region.read(region), 0, 10, form=asked.form)
+
+
 @contextmanager
 def costing(start: float, rectangle: float) -> Iterator[None]:
     """A model that takes so long."""
@@ -68,6 +86,21 @@ class Bytes(unittest.TestCase):
                         report = session.deepen(replace(question, depth=depth), report)
                         self.assertEqual(report.data, due[depth])
                         self.assertEqual(report.origin.words[report.origin.words.index('--depth') + 1], str(depth))
+
+    def test_texts(self) -> None:
+        parts = 0
+        for question in formulas():
+            with Session() as session, self.subTest(words=question.words(question.region, 0)):
+                base, due = (session.ask(replace(question, depth=depth)) for depth in (2, 5))
+                parts += len(unknown_parts(base))
+                for costs in ((0.0, 1.0), (4.0, 1.0)):
+                    with costing(*costs), Session() as other:
+                        report = other.deepen(replace(question, depth=5), base)
+                        self.assertEqual((report.data, report.soundness), (due.data, due.soundness))
+                        asked = other.asked
+                        self.assertEqual(other.shorten(replace(question, depth=2), report).data, base.data)
+                        self.assertEqual(other.asked, asked)
+        self.assertGreater(parts, 9)
 
     def test_what_is_decided_is_not_asked_again(self) -> None:
         asked = []
@@ -98,7 +131,7 @@ class Bytes(unittest.TestCase):
             self.assertEqual(deeper.data, session.ask(replace(question, depth=8)).data)
 
     def test_an_answer_of_another_job_is_refused(self) -> None:
-        def ask(region: Region, bound: Fraction, depth: int, report: Path) -> float:
+        def ask(region: Region, depth: int, report: Path, is_open: bool = False) -> float:
             report.write_bytes(RANGE)
             return 0.0
 
@@ -131,10 +164,13 @@ class Cover(unittest.TestCase):
     def test_a_report_that_went_too_far_is_cut(self) -> None:
         question = replace(RETRY, bound=Fraction(1, 1000), depth=0)
         with Session() as session:
-            asked = []
-            with mock.patch.object(
-                Session, 'deepen', lambda self, *one: asked.append(one[0].depth) or deepen(self, *one)
-            ):
+            asked: List[int] = []
+
+            def told(self: Session, *one: Any) -> Any:
+                asked.append(one[0].depth)
+                return deepen(self, *one)
+
+            with mock.patch.object(Session, 'deepen', told):
                 found = cover(session, question, Fraction(9, 10), lambda report: None)
             self.assertEqual(
                 [path.name for path in session.evidence.folder.glob('*.report')], [found.path.rpartition('/')[2]]

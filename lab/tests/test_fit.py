@@ -22,6 +22,8 @@ from plift_lab.program import find_program
 from .fitted import reached, read
 from .helpers import EXAMPLES, TOP, InFolder, run
 
+MUTATED, SEED = int(os.environ.get('PLIFT_FIT_TEXTS', '400')), int(os.environ.get('PLIFT_FIT_SEED', '7'))
+"""Texts with random changes; the more, the longer it takes."""
 HEAD = '@type: DTMC\n@parameters\np\n'
 COIN = HEAD + '@model\nstate 0 init\n1 : p\n2 : 1-p\nstate 1 done\n1 : 1\nstate 2\n2 : 1\n'
 STORM = '''// Exported by storm
@@ -267,10 +269,11 @@ class Texts(unittest.TestCase):
             fit(gzip.compress(bytes(10**6)), Wants())
 
     def test_mutated(self) -> None:
-        draw = random.Random(7)
+        draw = random.Random(SEED)
         texts = [path.read_bytes() for path in sorted(EXAMPLES.glob('*.drn')) if path.stat().st_size < 2000]
         texts += [STORM.encode(), TMR.encode()]
-        for _ in range(400):
+        fitting = 0
+        for _ in range(MUTATED):
             text = bytearray(draw.choice(texts))
             for _ in range(draw.randint(1, 4)):
                 place = draw.randrange(len(text) + 1)
@@ -289,11 +292,13 @@ class Texts(unittest.TestCase):
             try:
                 found = fit(bytes(text), wants)
                 told = '\n'.join([found.text.decode('ascii'), *found.told.lines()])
+                fitting += 1
             except Fault as fault:
                 self.assertEqual(fault.status, 3, (bytes(text), fault))
                 told = str(fault)
                 self.assertRegex(told, '^model: line [0-9]+: [A-Z][A-Za-z]+(: |$)')
             self.assertTrue(told.isascii() and told.replace('\n', '').isprintable(), (bytes(text), told))
+        self.assertTrue(MUTATED // 9 < fitting < MUTATED * 8 // 9, fitting)
 
 
 class Rewards(unittest.TestCase):

@@ -12,6 +12,8 @@ from math import comb
 from typing import Dict, List
 from unittest import mock
 
+from plift_lab.api import verify
+from plift_lab.faults import Fault
 from plift_lab.fit import Fitted, Wants, fit
 from plift_lab.fit.bernstein import Toss, coefficients
 from plift_lab.fit.polynomials import ONE, Polynomial
@@ -149,17 +151,34 @@ class Rows(unittest.TestCase):
             fit(model('1 : p^33\n3 : 1-p^33\n'), Wants())
 
     def test_steps(self) -> None:
-        told = '\n'.join(fit(model('1 : p^2\n3 : 1-p^2\n'), Wants()).told.lines())
-        self.assertIn('`bounded` isn\'t the same question of this text', told)
+        uneven = fit(model('1 : p^2\n3 : 1-p^2\n'), Wants())
+        self.assertIn('`bounded` isn\'t the same question of this text', '\n'.join(uneven.told.lines()))
+        for text in (uneven.text, fit(uneven.text, Wants()).text):
+            with self.assertRaisesRegex(Fault, 'within a number of steps is another question of this text'):
+                verify(text, formula='P<=1/2 [F<=2 "done"]', region='p=1/5..1/3,q=0..1')
+        self.assertEqual(verify(uneven.text, 'done', '1', 'p=1/5..1/3,q=0..1').verdict, 'accepted')
+        plain = fit(b'@type: DTMC\n@model\nstate 0 init\n1 : 1/2\n0 : 1/2\nstate 1 b\n1 : 1\n', Wants()).text
+        self.assertTrue(plain.startswith(b'// Fitted by plift-lab fit\n@type'))
+        self.assertEqual(verify(plain, formula='P<=3/4 [F<=2 "b"]').verdict, 'accepted')
         row = '1 : p^2\n2 : 2*p*(1-p)\n3 : (1-p)*(1-p)\n'
-        text = (
+        given = (
             '@type: DTMC\n@parameters\np\n@model\nstate 0 init\n%sstate 1 a\n%sstate 2\n2 : 1\nstate 3 b\n3 : 1\n'
             % (row, row)
         )
-        fitted = fit(text.encode(), Wants())
+        fitted = fit(given.encode(), Wants())
         told = '\n'.join(fitted.told.lines())
         self.assertIn('each step is now 2 steps: `bounded --steps S` is asked as --steps 2*S', told)
-        before, after, valuation = read(text), read(fitted.text.decode()), {'p': Fraction(1, 3)}
+        self.assertTrue(
+            fitted.text.startswith(b'// Fitted by plift-lab fit\n// Steps in between: each step is 2 steps\n@type')
+        )
+        self.assertEqual(fit(fitted.text, Wants()).text, fitted.text)
+        with self.assertRaisesRegex(Fault, 'each step is 2: F<=S of the model before is F<=2[*]S here .plift itself'):
+            verify(fitted.text, formula='P<=1/2 [F<=3 "b"]', region='p=1/5..1/3')
+        # By hand, at p = 1/4: 9/16 in one step, and 9/16+9/256 in two.
+        for steps, verdict in ((2, 'accepted'), (4, 'rejected')):
+            found = verify(fitted.text, formula='P<=19/32 [F<=%d "b"]' % steps, region='p=1/4')
+            self.assertEqual(found.verdict, verdict)
+        before, after, valuation = read(given), read(fitted.text.decode()), {'p': Fraction(1, 3)}
         for steps in range(5):
             worth = reached_within(before, valuation, 'b', steps)
             self.assertEqual(reached_within(after, valuation, 'b', 2 * steps), worth)

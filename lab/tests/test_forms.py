@@ -77,7 +77,7 @@ class Judges(InFolder):
         with mock.patch.dict(os.environ, {'PLIFT_PROGRAM': stand_in}):
             words = ('--formula', 'P>=0.9 [F "delivered"]', '--region', REGION, '--json')
             status, told, fault = run('verify', RETRY, *words)
-        return json.loads(told)[0]['behind']['judge'] if status == 0 else '%d: %s' % (status, fault)
+        return str(json.loads(told)[0]['behind']['judge']) if status == 0 else '%d: %s' % (status, fault)
 
     def test_the_program_where_it_can(self) -> None:
         sound = 'cat > /dev/null; echo sound holds 1 fails 0 unknown 0; exit 0'

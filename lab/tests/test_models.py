@@ -5,7 +5,7 @@ import operator
 import re
 import unittest
 from fractions import Fraction
-from typing import List, Mapping
+from typing import Any, List, Mapping
 
 from plift_lab.models import Model
 from plift_lab.regions import Region
@@ -18,9 +18,9 @@ OPERATIONS = {ast.Add: operator.add, ast.Sub: operator.sub, ast.Mult: operator.m
 def worth(value: str, valuation: Mapping[str, Fraction]) -> Fraction:
     """A value at a valuation, by a reader that shares nothing with the tool."""
 
-    def of(node: ast.expr) -> Fraction:
+    def of(node: Any) -> Fraction:
         if isinstance(node, ast.BinOp):
-            return OPERATIONS[type(node.op)](of(node.left), of(node.right))
+            return Fraction(OPERATIONS[type(node.op)](of(node.left), of(node.right)))
         if isinstance(node, ast.UnaryOp):
             return -of(node.operand)
         return valuation[node.id] if isinstance(node, ast.Name) else Fraction(str(node.value))
@@ -53,7 +53,7 @@ state 1 p
 
 
 class Rescaled(unittest.TestCase):
-    def same(self, model: Model, region: Region) -> None:
+    def same(self, model: Model, region: Region) -> Model:
         changed, units, scale = model.rescaled(region)
         self.assertEqual(
             [(name, low, high) for name, low, high in units.intervals], [(name, 0, 1) for name in region.names]

@@ -265,31 +265,23 @@ class Ends(Called):
         """A question of several is slow: what the others have shown is told."""
         slow = self.file(
             'slow',
-            b'#!/bin/sh\n[ ! -e started ] || [ "$1" != verify ] || exec sleep 60\nexec "%s" "$@"\n'
+            b'#!/bin/sh\nif [ "$1" = verify ]; then\n    echo >> asked\n'
+            b'    if [ "$(wc -l < asked)" -gt 2 ]; then echo > sleeps; exec sleep 60; fi\nfi\nexec "%s" "$@"\n'
             % str(find_program().path).encode(),
         )
         os.chmod(slow, 0o755)
-        with mock.patch.dict(os.environ, {'PLIFT_PROGRAM': slow}):
-            words = [
-                sys.executable,
-                MAIN,
-                'threshold',
-                RETRY,
-                *QUESTION,
-                '--bound',
-                '1/40',
-                '--parameter',
-                'p',
-                '--keep',
-                'k',
-            ]
-            process = subprocess.Popen(words, cwd=str(self.folder), stdout=subprocess.PIPE, stderr=subprocess.PIPE)
-        for _ in range(400):
-            if (self.folder / 'k/2.report').exists():
+        words = [sys.executable, MAIN, 'threshold', RETRY, *QUESTION, '--bound', '1/40', '--parameter', 'p', '--keep', 'k']
+        process = subprocess.Popen(
+            words,
+            env=dict(os.environ, PLIFT_PROGRAM=slow),
+            cwd=str(self.folder),
+            stdout=subprocess.PIPE,
+            stderr=subprocess.PIPE,
+        )
+        for _ in range(1200):
+            if (self.folder / 'sleeps').exists():
                 break
             time.sleep(0.05)
-        self.file('started', b'')
-        time.sleep(0.5)
         process.send_signal(signal.SIGINT)
         out, err = process.communicate(timeout=20)
         self.assertEqual((process.returncode, out), (130, b''))

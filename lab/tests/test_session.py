@@ -1,13 +1,16 @@
 """What is told while a job runs, and the models of the benchmark."""
 
 import io
+import os
 import subprocess
 import sys
 import unittest
 from contextlib import redirect_stderr
 from pathlib import Path
+from unittest import mock
 
-from plift_lab.progress import Follower, Progress, seconds_shown, time_left
+from plift_lab.progress import Follower, Progress, seconds_shown, slowness, time_left
+from plift_lab.session import Session
 
 from .helpers import EXAMPLES, TOP, TREE, InFolder
 
@@ -44,6 +47,31 @@ class Following(InFolder):
         self.assertIsNone(time_left([(10.0, 0.01)]))
         self.assertIsNone(time_left([(6.0, 0.5), (12.0, 0.5)]))
 
+    def test_judging_takes_time_too(self) -> None:
+        """A report of a megabyte at which half is settled, and a judge of a megabyte in ten seconds: ten seconds more
+        for the half that comes and the one that is there, and twice that for two questions."""
+        head, path = b'box 0 4\nsplit 0\naccept ' + b'7 ' * 5 * 10**5, self.folder / 'growing'
+        path.write_bytes(head + b'\n')
+        for spans, due in ((1, 20), (2, 40)):
+            told = io.StringIO()
+            with redirect_stderr(told), mock.patch('plift_lab.progress.slowness', lambda process: 1.0), mock.patch(
+                'plift_lab.progress.Past.left', lambda self, spent, share: 3.0
+            ):
+                progress = Progress(True)
+                with progress.part(0.0, 1 / spans):
+                    watch = progress.watcher(1e5)
+                    progress._told -= 11
+                    watch(path, 1)  # type: ignore[misc]
+                progress._told -= 11
+                progress.judging()
+            first, second = told.getvalue().splitlines()
+            self.assertIn(', some %d s left' % (due + 3), first)
+            self.assertIn(' of the region is settled, and is judged now', second)
+
+    def test_a_busy_machine(self) -> None:
+        self.assertGreaterEqual(slowness(os.getpid()), 1)
+        self.assertEqual(slowness(2**30), 1)
+
     def test_once_for_the_whole_job(self) -> None:
         """The share goes on from question to question, and never back; where none is known it is no number."""
         told = io.StringIO()
@@ -51,16 +79,22 @@ class Following(InFolder):
         path.write_bytes(Path(TREE).read_bytes()[:-1])
         with redirect_stderr(told):
             progress = Progress(True)
+            self.assertEqual(progress.known, '')
             for low, high in ((0.0, 0.5), (0.5, 1.0)):
                 with progress.part(low, high):
                     watch = progress.watcher()
                     for data in (b'', Path(TREE).read_bytes()):
                         path.write_bytes(data)
                         progress._told -= 11
-                        watch(path)  # type: ignore[misc]
+                        watch(path, os.getpid())  # type: ignore[misc]
+            self.assertEqual(progress.known, '100.0 % of the region is settled')
+            with self.assertRaises(KeyboardInterrupt) as stopped, Session() as session:
+                session.progress = progress
+                raise KeyboardInterrupt(2)
+            self.assertEqual(stopped.exception.args, (2, 'so far: 100.0 % of the region is settled'))
             progress.say('p between 1 and 2')
             progress._told -= 11
-            progress.watcher()(path)  # type: ignore[misc]
+            progress.watcher()(path, os.getpid())  # type: ignore[misc]
         self.assertEqual(
             [line.split(' after ')[0] for line in told.getvalue().splitlines()],
             ['0 s so far', '50.0 % of the region is settled', '50.0 % of the region is settled']

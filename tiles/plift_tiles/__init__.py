@@ -3,4 +3,6 @@
 Nothing in it is believed: each tile counts once `plift check` has judged it, and `plift check` judges the whole.
 """
 
-from plift_lab.version import VERSION as __version__  # noqa: F401
+from plift_lab.version import VERSION as __version__
+
+__all__ = ['__version__']

@@ -57,7 +57,18 @@ class Joining:
         """The lines of a tile's tree."""
         if number in self.left:
             return self.open_tree
-        return _read_tile(self.job, number, self.heads[number].text)
+        return self._read_tile(number)
+
+    def _read_tile(self, number: int) -> Iterator[bytes]:
+        """The lines of a tree in a file, behind the head that is due."""
+        path = self.job.report(number)
+        with open(path, 'rb') as file:
+            try:
+                yield from tree_lines(file, self.heads[number].text, self.base)
+            except Unfit as fault:
+                raise Fault(
+                    'tile %d %s: remove %s, and `plift-tiles work` makes it again' % (number, fault, path), UNFIT
+                ) from None
 
 
 def join(job: Job, partial: bool, out: BinaryIO) -> List[str]:
@@ -78,18 +89,6 @@ def join(job: Job, partial: bool, out: BinaryIO) -> List[str]:
     return told
 
 
-def _read_tile(job: Job, number: int, head: bytes) -> Iterator[bytes]:
-    """The lines of a tree in a file, behind the head that is due."""
-    with open(job.report(number), 'rb') as file:
-        try:
-            yield from tree_lines(file, head)
-        except Unfit as fault:
-            raise Fault(
-                'tile %d %s: remove %s, and `plift-tiles work` makes it again' % (number, fault, job.report(number)),
-                UNFIT,
-            ) from None
-
-
 def _open_tree(report: Report, ends: Tuple[int, ...], levels: int) -> List[bytes]:
     """The lines of the tree of a rectangle of which nothing is known, halved as often as is left. Each rectangle at one
     depth is as long as each other one on each axis, so it is the same for all tiles."""
@@ -103,7 +102,7 @@ def _axes(report: Report, ends: Iterable[int], levels: int) -> Iterator[int]:
     """The axes on which a rectangle and its halves are halved: the longest one that a row depends on, the first of
     equally long ones."""
     low, high = list(ends)[::2], list(ends)[1::2]
-    lengths = [(end - begin) * 2**levels for begin, end in zip(low, high)]
+    lengths = [(end - begin) << levels for begin, end in zip(low, high)]
     live = [report.parameters.index(name) for name in report.live]
     for _ in range(levels):
         axis = max(live, key=lambda each: lengths[each])

@@ -5,7 +5,6 @@ from __future__ import annotations
 import os
 import shutil
 from dataclasses import replace
-from fractions import Fraction
 from pathlib import Path
 
 from plift_lab.faults import Fault
@@ -44,25 +43,27 @@ def _fill(program: Program, report: Report, place: Path, depth: int) -> int:
     told = [
         'depth %d' % depth,
         'levels %d' % (depth - head.depth),
-        'bound %s' % head.bound,
-        'precision %d' % head.precision,
+        'bound %s' % report.bound,
+        'precision %d' % report.precision,
     ]
-    told += [] if head.least is None else ['from %d' % head.least]
+    told += [] if report.version == 1 else ['from %d' % report.least_precision]
     (place / 'base.report').write_bytes(report.data)
     (place / 'model.drn').write_bytes(report.model_text)
     lay_out(place, told, regions)
-    _ask_whole(program, report.region.text, head.at(depth), place)
+    _ask_whole(program, report, depth, place)
     return len(regions)
 
 
-def _ask_whole(program: Program, region: str, head: Head, place: Path) -> None:
+def _ask_whole(program: Program, report: Report, depth: int, place: Path) -> None:
     """Whether the whole is admitted at the greater depth, and the model's text is read as the report's model: asked
     with the bound 1, which the first rectangle answers, before any tile is sent out."""
     answer = place / 'whole.report'
-    least = None if head.least is None else str(head.least)
-    program.verify(words('1', region, str(head.depth), str(head.precision), least), place / 'model.drn', answer)
+    least = None if report.version == 1 else str(report.least_precision)
+    asked = words('1', report.region.text, str(depth), str(report.precision), least)
+    program.verify(asked, place / 'model.drn', answer)
+    head = Head.of(report).at(depth)
+    head = replace(head, asked=b'bound 1/1\n' + head.asked.partition(b'\n')[2])
     with open(answer, 'rb') as lines:
-        due = replace(head, bound=Fraction(1)).text
-        if lines.read(len(due)) != due:
+        if lines.read(len(head.text)) != head.text:
             raise Fault('the model of the report isn\'t read back as itself', UNFIT)
     os.unlink(answer)

@@ -37,7 +37,7 @@ def _decide(program: Program, job: Job, number: int) -> None:
     """Leaves the report of a tile in its place, or nothing."""
     part = beside(job.report(number))
     try:
-        program.verify(job.words(number), job.model, part, _require_readable)
+        program.verify(job.words(number), job.model, part, lambda report, _: _require_readable(report))
         _require_readable(part)
         program.check(part.read_bytes())
         part.replace(job.report(number))

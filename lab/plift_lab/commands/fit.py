@@ -12,9 +12,11 @@ computed exactly from both texts, for models of up to 2,000 states.
 from __future__ import annotations
 
 import argparse
+import gc
 import re
+from contextlib import contextmanager
 from fractions import Fraction
-from typing import Dict, List
+from typing import Dict, Iterator, List
 
 from ..ends import say
 from ..evidence import read_file
@@ -80,7 +82,8 @@ def run(given: argparse.Namespace) -> int:
     log = Output(given.log, [given.model], '--log') if given.log is not None else None
     if log and (given.log == given.out or (log.path and log.path == out.path)):
         raise Fault('--out and --log name the same file')
-    fitted = fit(read_file(given.model), wants_of(given))
+    with uncollected():
+        fitted = fit(read_file(given.model), wants_of(given))
     told = ['plift-lab fit: %s' % plain(given.model), *fitted.told.lines(None if log else MOST_PLACES), '']
     out.write(fitted.text)
     if log:
@@ -88,6 +91,19 @@ def run(given: argparse.Namespace) -> int:
     else:
         say('\n'.join(told), '')
     return DONE
+
+
+@contextmanager
+def uncollected() -> Iterator[None]:
+    """Python doesn't look for objects that lead to each other meanwhile: a large model is millions that don't, and the
+    search takes a fifth of the time."""
+    was_on = gc.isenabled()
+    gc.disable()
+    try:
+        yield
+    finally:
+        if was_on:
+            gc.enable()
 
 
 def wants_of(given: argparse.Namespace) -> Wants:

@@ -10,6 +10,7 @@ from fractions import Fraction
 from typing import Dict, List, NamedTuple, Optional, Sequence, Set
 
 from ..faults import Fault
+from ..models import Model
 from ..plain import plain
 from ..regions import Region
 from . import costs, decimals, labels, rates, states
@@ -17,7 +18,7 @@ from .labels import Formula
 from .polynomials import Box
 from .refusal import Unfit, shown
 from .source import Source
-from .spread import Spreader, tell_steps
+from .spread import Spreader, steps_of_each, tell_steps
 from .text import read
 from .told import Told, ranges
 from .trial import MOST_FITTED, MOST_STATES, TOO_LARGE, Asked, Pair, Plain, as_read, compare
@@ -61,6 +62,7 @@ def fit(data: bytes, wants: Wants) -> Fitted:
     states.join_targets(source, told)
     costs.settle(source, told)
     made = _Making(source, told, names, kept_parameters(source, names, told))
+    made.each = Model(data).steps_of_each
     asked = Question(made.marked(goal, 'goal'), made.marked(safe, 'safe'))
     return Fitted(made.text(before, asked, start, wants), told)
 
@@ -71,12 +73,18 @@ class Question(NamedTuple):
     goal: Optional[Marked]
     safe: Optional[Marked]
 
+    def is_goal(self, names: Sequence[bytes]) -> bool:
+        """Whether a state with these labels is a goal."""
+        return self.goal is not None and self.goal.label in names
+
 
 class _Making:
     """The fitted text in the making: what is left of the model, and the names of its parameters."""
 
     def __init__(self, source: Source, told: Told, names: Sequence[str], kept: Sequence[int]) -> None:
         self.source, self.told, self.names, self.kept = source, told, names, kept
+        self.each: Optional[int] = 1
+        """How many steps a step of the text is that was fitted once before."""
 
     def marked(self, formula: Optional[Formula], name: str) -> Optional[Marked]:
         """The label of a formula, a new one unless it is a label by itself."""
@@ -110,10 +118,12 @@ class _Making:
         )
         self._warn(box)
         writer = Writer(source, self.names, self.kept)
-        text = writer.text(between, [asked.safe.label] if asked.safe and between else [])
+        each = steps_of_each(spreader, [asked.is_goal(state.labels) for state in source.states]) if between else 1
+        each = None if each is None or self.each is None else each * self.each
+        text = writer.text(between, [asked.safe.label] if asked.safe and between else [], each)
         for name in sorted(writer.renamed):
             told.change(RENAMED, 'they mark the same states; ask for them as they are written here', shown(name))
-        self._tell(spreader, asked)
+        self._tell(spreader, each)
         is_small = before is not None and len(source.states) + len(between) <= MOST_FITTED
         told.notes.append(
             self._tested(before, text, asked, runs, box) if before and is_small else TOO_LARGE % MOST_STATES
@@ -139,7 +149,7 @@ class _Making:
                     self.told.notes.append(about % (choice.where, shown(str(least[value]))))
                     return
 
-    def _tell(self, spreader: Spreader, asked: Question) -> None:
+    def _tell(self, spreader: Spreader, each: Optional[int]) -> None:
         """What to know of the fitted text."""
         moved = [place for place, state in enumerate(self.source.states) if state.number != place]
         if moved:
@@ -148,8 +158,7 @@ class _Making:
                 'states have other numbers than in the file: %s were %s'
                 % (shown(parts, 200), shown(ranges([self.source.states[place].number for place in moved]), 200))
             )
-        goals = [asked.goal is not None and asked.goal.label in state.labels for state in self.source.states]
-        tell_steps(spreader, goals, self.told)
+        tell_steps(spreader, each, self.told)
 
     def _tested(self, before: Plain, text: bytes, asked: Question, runs: Set[int], box: Optional[Box]) -> str:
         """What the comparison of both models says."""

@@ -3,7 +3,7 @@
 from __future__ import annotations
 
 from fractions import Fraction
-from typing import Dict, List, Optional, Sequence, Tuple, Union
+from typing import Callable, Dict, List, Optional, Sequence, Tuple, Union
 
 from .polynomials import ONE, Monomial, Polynomial, common_multiple, total
 from .refusal import Unfit, shown
@@ -75,21 +75,32 @@ def rounded_row(values: Sequence[Polynomial], is_coarse: bool = False) -> Option
     return [Polynomial.of(each) for each in parts]
 
 
-def settle(source: Source, is_rounded: bool, told: Told) -> None:
-    """Sees to it that each row sums to one, and by rounding that numbers aren't too long."""
-    pool = source.pool
+def _rewrite(
+    source: Source, told: Told, new_row: Callable[[Choice, List[Polynomial]], Optional[List[Polynomial]]]
+) -> None:
+    """Puts new values in the place of those of each row, where there are any; equal rows have the same."""
     known: Dict[Tuple[int, ...], Optional[List[int]]] = {}
     for choice in source.choices:
         key = tuple(choice.values)
         if key not in known:
-            values = [pool[value] for value in key]
-            known[key] = None
-            if total(values) != ONE:
-                new = rounded_row(values) if is_rounded else None
-                if new is None:
-                    raise _missed(source, choice, is_rounded)
-                known[key] = [pool.add(value) for value in new]
+            new = new_row(choice, [source.pool[value] for value in key])
+            known[key] = None if new is None else [source.pool.add(value) for value in new]
         _replace(source, choice, known[key], told)
+
+
+def settle(source: Source, is_rounded: bool, told: Told) -> None:
+    """Sees to it that each row sums to one, and by rounding that numbers aren't too long."""
+
+    def summing(choice: Choice, values: List[Polynomial]) -> Optional[List[Polynomial]]:
+        """A row that sums to one, in the place of one that doesn't."""
+        if total(values) == ONE:
+            return None
+        new = rounded_row(values) if is_rounded else None
+        if new is None:
+            raise _missed(source, choice, is_rounded)
+        return new
+
+    _rewrite(source, told, summing)
     for is_coarse in (False, True):
         if is_rounded and _is_long(source):
             _shorten(source, is_coarse, told)
@@ -108,15 +119,12 @@ def _is_long(source: Source) -> bool:
 
 def _shorten(source: Source, is_coarse: bool, told: Told) -> None:
     """Rounds rows that have long numbers."""
-    pool = source.pool
-    known: Dict[Tuple[int, ...], Optional[List[int]]] = {}
-    for choice in source.choices:
-        key = tuple(choice.values)
-        if key not in known:
-            values = [pool[value] for value in key]
-            new = None if all(value.below <= FEW for value in values) else rounded_row(values, is_coarse)
-            known[key] = None if new is None else [pool.add(value) for value in new]
-        _replace(source, choice, known[key], told)
+
+    def short(_: Choice, values: List[Polynomial]) -> Optional[List[Polynomial]]:
+        """The row rounded, where its numbers are long."""
+        return None if all(value.below <= FEW for value in values) else rounded_row(values, is_coarse)
+
+    _rewrite(source, told, short)
 
 
 def is_wide(value: Polynomial) -> bool:

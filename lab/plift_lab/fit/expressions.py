@@ -18,6 +18,7 @@ COMMENT = re.compile(rb'(?:^|\s)//.*|\s+$', re.S)
 DECIMAL = re.compile(rb'[0-9]+(?:\.[0-9]+)?')
 MOST_SYMBOLS, MOST_NESTED, MOST_DIGITS, MOST_SIZE, MOST_POWER = (65536, 64, 1000, 2**8192, 1024)
 """Limits far beyond what the program reads: a value within them may still become one that fits."""
+POWERS = [10**power for power in range(MOST_DIGITS + 1)]
 MOST_TERMS, MOST_PRODUCTS, MOST_WORK = 4096, 2**18, 2**22
 """Monomials of a polynomial, products of two of them in one value, and in all values of a text."""
 Symbols = List[Tuple[int, bytes]]
@@ -48,8 +49,9 @@ def symbols_with(odd_names: Sequence[bytes] = ()) -> Pattern[bytes]:
 
 def literal(text: bytes) -> Tuple[int, int]:
     """The number that digits, a point and an exponent stand for: what is above and below the line."""
-    if text.isdigit() and len(text) <= MOST_DIGITS:
-        return int(text), 1
+    whole, _, behind = text.partition(b'.')
+    if whole.isdigit() and (behind.isdigit() or whole == text) and len(text) <= MOST_DIGITS:
+        return int(whole + behind), POWERS[len(behind)]
     parts = LITERAL.fullmatch(text)
     if not parts or not parts.group(1) + parts.group(2):
         raise ValueFault('Syntax', '`%s` is no number' % shown(text))
@@ -201,7 +203,7 @@ class Polynomials:
 
     @staticmethod
     def _number(above: int, below: int) -> Polynomial:
-        return Polynomial({(): above}, below)
+        return Polynomial.ratio(above, below)
 
     def _times(self, left: Polynomial, right: Polynomial) -> Polynomial:
         self._products += len(left.terms) * len(right.terms)

@@ -36,9 +36,22 @@ class Polynomial:
         self._hash = 0
 
     @classmethod
+    def _lowest(cls, terms: Dict[Monomial, int], below: int) -> 'Polynomial':
+        """What is in lowest terms already."""
+        new = cls.__new__(cls)
+        new.terms, new.below, new._hash = terms, below, 0
+        return new
+
+    @classmethod
+    def ratio(cls, above: int, below: int) -> 'Polynomial':
+        """A constant, by what is above and below the line."""
+        common = gcd(above, below)
+        return cls._lowest({(): above // common} if above else {}, below // common)
+
+    @classmethod
     def number(cls, value: Number) -> 'Polynomial':
         """A constant."""
-        return cls({(): value.numerator}, value.denominator)
+        return cls.ratio(value.numerator, value.denominator)
 
     @classmethod
     def parameter(cls, index: int) -> 'Polynomial':
@@ -61,7 +74,7 @@ class Polynomial:
     @property
     def key(self) -> Tuple[int, Tuple[Tuple[Monomial, int], ...]]:
         """What two equal polynomials have in common."""
-        return self.below, tuple(sorted(self.terms.items()))
+        return self.below, tuple(sorted(self.terms.items()) if len(self.terms) > 1 else self.terms.items())
 
     def __eq__(self, other: object) -> bool:
         return isinstance(other, Polynomial) and self.below == other.below and self.terms == other.terms
@@ -155,6 +168,8 @@ class Polynomial:
 
     def text(self, names: Sequence[str]) -> str:
         """As the program reads it, where no power is above 1."""
+        if len(self.terms) == 1 and () in self.terms:
+            return '%d/%d' % (self.terms[()], self.below) if self.below != 1 else str(self.terms[()])
         told = ''
         for monomial, value in sorted(self.terms.items(), key=_order):
             common = gcd(value, self.below)

@@ -173,9 +173,20 @@ def _numbered(steps: Steps, pool: Pool) -> Spread:
     return Spread(entries(steps.first), [entries(row) for row in steps.between], steps.tosses, least, most)
 
 
-def tell_steps(spreader: Spreader, goals: Sequence[bool], told: Told) -> None:
+def steps_of_each(spreader: Spreader, goals: Sequence[bool]) -> Optional[int]:
+    """How many steps each step has become; none where that differs."""
+    moving = {
+        spreader.lengths[place]
+        for place, state in enumerate(spreader.source.states)
+        if not goals[place] and any(set(choice.targets) != {place} for choice in state.choices)
+    }
+    found = {number for ends in moving for number in ends}
+    return found.pop() if len(found) == 1 else None
+
+
+def tell_steps(spreader: Spreader, each: Optional[int], told: Told) -> None:
     """What became of steps, and which questions speak of them."""
-    states, count = spreader.source.states, len(spreader.between.rows)
+    count = len(spreader.between.rows)
     if not count:
         return
     first = spreader.between.first
@@ -183,13 +194,7 @@ def tell_steps(spreader: Spreader, goals: Sequence[bool], told: Told) -> None:
         '%s in between, from state %d on: no label and no cost stands there, so what is reached and spent stays'
         % (counted(count, 'step'), first)
     )
-    moving = {
-        spreader.lengths[place]
-        for place, state in enumerate(states)
-        if not goals[place] and any(set(choice.targets) != {place} for choice in state.choices)
-    }
-    if len(moving) == 1 and len(set(next(iter(moving)))) == 1:
-        each = next(iter(moving))[0]
+    if each is not None:
         told.notes.append(
             'each step is now %s: `bounded --steps S` is asked as --steps %d*S' % (counted(each, 'step'), each)
         )

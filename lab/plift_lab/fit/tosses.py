@@ -47,7 +47,7 @@ def degrees_of(row: Row) -> Dict[int, int]:
     """The greatest power of each parameter in a row."""
     found: Dict[int, int] = {}
     for value in row.values():
-        for index, power in value.degrees.items():
+        for index, power in () if value.is_constant else value.degrees.items():
             found[index] = max(found.get(index, 0), power)
     return found
 

@@ -3,8 +3,9 @@
 from __future__ import annotations
 
 import re
-from typing import Dict, List, Sequence, Set, Tuple
+from typing import Dict, List, Optional, Sequence, Set, Tuple
 
+from ..models import between_line
 from ..plain import plain
 from .decimals import is_wide
 from .polynomials import common_multiple
@@ -72,13 +73,17 @@ def check_numbers(source: Source, rows: Sequence[Tuple[int, Sequence[int]]]) -> 
         if is_wide(polynomial):
             about = 'a value has numbers of 2^62 or more above or below the line; --round finds short ones near by'
             raise Unfit(line, 'Wide', about)
-        below = common_multiple((below, polynomial.below))
+        if below % polynomial.below:
+            below = common_multiple((below, polynomial.below))
         if below >= MOST_NUMBER:
             about = 'the least common denominator of all values is 2^62 or more; --round finds short fractions near by'
             raise Unfit(line, 'CommonDenominator', about)
     for value, line in lines.items():
         polynomial = source.pool[value]
-        if any(abs(each) * (below // polynomial.below) >= MOST_SCALED for each in polynomial.terms.values()):
+        factor = below // polynomial.below
+        if factor > MOST_SCALED // MOST_NUMBER and any(
+            abs(each) * factor >= MOST_SCALED for each in polynomial.terms.values()
+        ):
             raise Unfit(line, 'CommonDenominator', 'a coefficient over the least common denominator is 2^100 or more')
 
 
@@ -91,8 +96,8 @@ class Writer:
         """Labels and names with bytes that the program doesn't take."""
         self._texts: Dict[int, str] = {}
 
-    def text(self, between: Sequence[Entries], marked: Sequence[bytes]) -> bytes:
-        """The whole text; steps in between carry some labels."""
+    def text(self, between: Sequence[Entries], marked: Sequence[bytes], each: Optional[int]) -> bytes:
+        """The whole text; steps in between carry some labels. Each step is so many; none where that differs."""
         states = self.source.states
         choices = list(self.source.choices)
         if len(choices) + len(between) > MOST_CHOICES:
@@ -101,7 +106,8 @@ class Writer:
         if entries > MOST_TRANSITIONS:
             about = 'there are %d transitions, more than %d' % (entries, MOST_TRANSITIONS)
             raise Unfit(self.source.last_line, 'LimitTransitions', about)
-        lines = self._head(len(states) + len(between), len(choices) + len(between))
+        lines = ['// Fitted by plift-lab fit'] + [between_line(each)] * (each != 1)
+        lines += self._head(len(states) + len(between), len(choices) + len(between))
         for place, state in enumerate(states):
             lines.append(self._state(place, state.group, state.labels, state.line))
             is_named = len(state.choices) > 1 or any(choice.name or choice.group for choice in state.choices)
@@ -115,7 +121,7 @@ class Writer:
         return '\n'.join(lines).encode('ascii') + b'\n'
 
     def _head(self, states: int, choices: int) -> List[str]:
-        lines = ['// Fitted by plift-lab fit', '@type: %s' % self.source.kind]
+        lines = ['@type: %s' % self.source.kind]
         if self.kept:
             lines += ['@parameters', ' '.join(self.names[place] for place in self.kept)]
         if self.source.rewards:

@@ -19,15 +19,14 @@ class Plot {
     return (name) => style.getPropertyValue('--' + name).trim();
   }
 
-  // How a kind is filled: plain, stripes, dots; so kinds are told apart in grey too.
-  fill(context, kind, ratio, color) {
+  // A kind is plain, has stripes or has dots, so kinds are told apart in grey too: what is repeated to fill a leaf.
+  tile(kind, ratio, color) {
     const name = KINDS[kind], size = Math.round((kind === REJECT ? 8 : 7) * ratio);
-    if (kind === ACCEPT) return color(name);
-    const tile = document.createElement('canvas');
-    tile.width = tile.height = size;
-    const paint = tile.getContext('2d');
+    const paint = document.createElement('canvas').getContext('2d', { willReadFrequently: true });
+    paint.canvas.width = paint.canvas.height = size;
     paint.fillStyle = color(name);
     paint.fillRect(0, 0, size, size);
+    if (kind === ACCEPT) return paint;
     paint.fillStyle = paint.strokeStyle = color(name + '-mark');
     if (kind === REJECT) {
       paint.lineWidth = 1.5 * ratio;
@@ -39,7 +38,11 @@ class Plot {
       paint.arc(size / 2, size / 2, 1.1 * ratio, 0, 2 * Math.PI);
       paint.fill();
     }
-    return context.createPattern(tile, 'repeat');
+    return paint;
+  }
+
+  fill(context, kind, ratio, color) {
+    return context.createPattern(this.tile(kind, ratio, color).canvas, 'repeat');
   }
 
   value(axis, units) {
@@ -110,13 +113,13 @@ class Plot {
   draw() {
     const { context, xTicks, yTicks } = this.layout(), color = this.color, large = [], seen = [0, 0, 0], counts = [0, 0, 0];
     const image = context.createImageData(this.canvas.width, this.canvas.height);
-    const pixels = new Uint32Array(image.data.buffer), plain = this.words(color), least = 7 * this.area.ratio;
+    const pixels = new Uint32Array(image.data.buffer), tiles = this.words(color), least = 7 * this.area.ratio;
     this.tree.each(this.point, this.ranges(), (node, low, high) => {
       const kind = this.tree.kind[node], [x0, y0, x1, y1] = this.box(low, high);
       counts[kind] += 1;
       seen[kind] += this.part('x', low, high) * this.part('y', low, high);
       if (x1 - x0 >= least && y1 - y0 >= least) large.push([node, x0, y0, x1 - x0, y1 - y0]);
-      else for (let y = y0; y < y1; y++) pixels.fill(plain[kind], y * image.width + x0, y * image.width + x1);
+      else this.fillSmall(pixels, image.width, tiles[kind], [x0, y0, x1, y1]);
     });
     context.putImageData(image, 0, 0);
     this.drawLarge(context, large, color);
@@ -125,14 +128,19 @@ class Plot {
     return { seen, counts };
   }
 
-  // The colors of the kinds as they stand in an image, where leaves are drawn that are too small for a pattern or a line.
+  // The tiles of the kinds as they stand in an image, in which leaves are drawn that are too small for a line.
   words(color) {
-    const sample = document.createElement('canvas').getContext('2d', { willReadFrequently: true });
-    return KINDS.map((name) => {
-      sample.fillStyle = color(name);
-      sample.fillRect(0, 0, 1, 1);
-      return new Uint32Array(sample.getImageData(0, 0, 1, 1).data.buffer)[0];
+    return KINDS.map((_, kind) => {
+      const paint = this.tile(kind, this.area.ratio, color), size = paint.canvas.width;
+      return { size, words: new Uint32Array(paint.getImageData(0, 0, size, size).data.buffer) };
     });
+  }
+
+  fillSmall(pixels, width, { size, words }, [x0, y0, x1, y1]) {
+    for (let y = y0; y < y1; y++) {
+      const row = (y % size) * size;
+      for (let x = x0; x < x1; x++) pixels[y * width + x] = words[row + x % size];
+    }
   }
 
   drawLarge(context, leaves, color) {
