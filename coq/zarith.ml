@@ -1,10 +1,26 @@
 (* Zarith's numbers under a name that the extracted program doesn't take for its own. Small ones, which are OCaml's own
-   integers, are compared and halved at once. *)
+   integers, are compared, halved, added and multiplied at once, where what comes out is as small: a sum that has the sign
+   that it should have, a product that is below 2^62 by far, told by floats. *)
 include Z
 let small (x : t) = Obj.is_int (Obj.repr x)
 let int (x : t) : int = Obj.magic x
+let own (n : int) : t = Obj.magic n
 let lt x y = if small x && small y then int x < int y else Z.lt x y
 let leq x y = if small x && small y then int x <= int y else Z.leq x y
 let equal x y = if small x && small y then int x = int y else Z.equal x y
-let div2 x : t = if small x then Obj.magic (Stdlib.( asr ) (int x) 1) else Z.shift_right x 1
+let div2 x = if small x then own (Stdlib.( asr ) (int x) 1) else Z.shift_right x 1
 let is_odd x = if small x then Stdlib.( land ) (int x) 1 = 1 else Z.is_odd x
+let other_sign a b = Stdlib.( lxor ) a b < 0
+let add x y =
+  if small x && small y then
+    let n = Stdlib.( + ) (int x) (int y) in
+    if other_sign n (int x) && other_sign n (int y) then Z.add x y else own n
+  else Z.add x y
+let sub x y =
+  if small x && small y then
+    let n = Stdlib.( - ) (int x) (int y) in
+    if other_sign (int x) (int y) && other_sign n (int x) then Z.sub x y else own n
+  else Z.sub x y
+let mul x y =
+  if small x && small y && Stdlib.abs_float (Stdlib.float (int x) *. Stdlib.float (int y)) < 4e18
+  then own (Stdlib.( * ) (int x) (int y)) else Z.mul x y
