@@ -1,4 +1,4 @@
-# Completion of plift and plift-view for bash.
+# Completion of plift and plift-view for bash. Made by tools/tables.py.
 
 _plift_unused() {
     # Of these options those that don't stand on the line yet.
@@ -16,7 +16,7 @@ _plift_offer() {
 }
 
 _plift() {
-    local at=1
+    local at=1 options=
     [[ ${COMP_WORDS[1]} == --quick && COMP_CWORD -gt 1 ]] && at=2
     COMPREPLY=()
     if ((COMP_CWORD == at)); then
@@ -26,25 +26,23 @@ _plift() {
     case ${COMP_WORDS[at]} in
     --help | -h | help)
         ((COMP_CWORD == at + 1)) && _plift_offer 'verify bounded property cost lumped check migrate refine generate selftest'
+        return
         ;;
-    verify | bounded | property | cost | lumped)
-        local options='--goal --bound --region --depth --precision --help'
-        [[ ${COMP_WORDS[at]} == verify ]] && options="--from $options"
-        [[ ${COMP_WORDS[at]} == bounded ]] && options="--steps $options"
-        [[ ${COMP_WORDS[at]} == property ]] && options='--formula --region --depth --precision --help'
-        [[ ${COMP_WORDS[at]} == cost ]] && options='--goal --reward --budget --cap --region --depth --precision --help'
-        case ${COMP_WORDS[COMP_CWORD - 1]} in
-        --goal | --bound | --steps | --formula | --reward | --budget | --cap | --region | --depth | --precision | --from | =) ;;
-        *) _plift_offer "$(_plift_unused $options)" ;;
-        esac
-        ;;
-    refine)
-        [[ ${COMP_WORDS[COMP_CWORD - 1]} == --depth || ${COMP_WORDS[COMP_CWORD - 1]} == = ]] || _plift_offer "$(_plift_unused --depth --help)"
-        ;;
-    check | migrate | generate | selftest)
-        ((COMP_CWORD == at + 1)) && _plift_offer --help
-        ;;
+    verify) options='--goal --bound --region --depth --precision --from' ;;
+    bounded) options='--goal --bound --steps --region --depth --precision' ;;
+    property) options='--formula --region --depth --precision' ;;
+    cost) options='--goal --reward --budget --cap --region --depth --precision' ;;
+    lumped) options='--goal --bound --region --depth --precision' ;;
+    refine) options='--depth' ;;
     esac
+    if [[ -n $options ]]; then
+        case ${COMP_WORDS[COMP_CWORD - 1]} in
+        --bound | --budget | --cap | --depth | --formula | --from | --goal | --precision | --region | --reward | --steps | =) ;;
+        *) _plift_offer "$(_plift_unused $options --help)" ;;
+        esac
+    elif ((COMP_CWORD == at + 1)) && [[ " verify bounded property cost lumped check migrate refine generate selftest " == *" ${COMP_WORDS[at]} "* ]]; then
+        _plift_offer --help
+    fi
 }
 
 _plift_view() {

@@ -169,8 +169,14 @@ keep_pipe() {
     exec <&9 8>&- 9<&-
 }
 
-# Shows a text of `bounded`, `property` or `cost`, which the program doesn't read: a script judges it and draws it. Its first line
-# tells which text it is.
+# Whether plift-lab says in a file beside the report that its parameters were rescaled.
+is_rescaled() {
+    beside=$(readlink /proc/self/fd/0 2>/dev/null).json
+    [ -f "$beside" ] && [ -r "$beside" ] && ! grep -q '^"scale": {},\{0,1\}$' "$beside"
+}
+
+# Shows a text of `bounded`, `property` or `cost`, which the program doesn't read, and a rescaled report in the user's own numbers: a
+# script judges it and draws it. Its first line tells which text it is.
 show_other_text() {
     case " $* " in
     *' --follow '*) return ;;
@@ -180,6 +186,7 @@ show_other_text() {
     [ -f /dev/stdin ] || return 0
     case $(head -c 17 </dev/stdin 2>/dev/null | head -n 1) in
     'plift-bounded 1' | 'plift-property 1' | 'plift-cost 1') exec python3 "$top/tools/draw.py" "$@" ;;
+    'plift 1' | 'plift 2') ! is_rescaled || exec python3 "$top/tools/draw.py" "$@" ;;
     esac
 }
 

@@ -18,8 +18,9 @@ from typing import Dict, List, NamedTuple, Optional, Sequence, Tuple
 
 sys.dont_write_bytecode = True
 
+from hints import data  # noqa: E402
 from hints.formula import cause_of, is_bound  # noqa: E402
-from hints.options import COSTED, FLAGS, FORMULATED, RANGED, STEPPED, VALUED, VIEWED  # noqa: E402
+from hints.options import FLAGS, VIEWED  # noqa: E402
 
 TOOLS = Path(__file__).resolve().parent
 USAGE = 2
@@ -39,31 +40,30 @@ class Grammar(NamedTuple):
     takes_any: bool = False
 
 
-VERIFY = Grammar(RANGED, needed=("--goal", "--bound"))
-BOUNDED = Grammar(STEPPED, needed=("--goal", "--bound", "--steps"))
-PROPERTY = Grammar(FORMULATED, needed=("--formula",))
-COST = Grammar(COSTED, needed=("--goal", "--reward", "--budget", "--cap"))
-LUMPED = Grammar(VALUED, needed=("--goal", "--bound"))
-REFINE = Grammar(("--depth",), needed=("--depth",))
-GRAMMARS = {
-    "verify": VERIFY,
-    "bounded": BOUNDED,
-    "property": PROPERTY,
-    "cost": COST,
-    "lumped": LUMPED,
-    "refine": REFINE,
-}
+def grammar_of(command: str) -> Grammar:
+    """The options of a command that reads a model or a report."""
+    return Grammar(data.names_of(command), needed=data.needed_by(command))
+
+
+def range_of(option: data.Row) -> Tuple[int, int, int]:
+    """The most digits of a number, and its range."""
+    digits, low, high = (int(option[key]) for key in ("digits", "low", "high"))
+    return digits, low, high
+
+
+GRAMMARS = {command: grammar_of(command) for command in (*data.ASKING, "refine")}
+VERIFY, BOUNDED, PROPERTY, COST, LUMPED, REFINE = GRAMMARS.values()
 VIEW = Grammar(VIEWED, flags=FLAGS, often=("--at",), takes_any=True)
 # How many words stand behind a command that has no options.
-COUNTS = {"check": 0, "migrate": 0, "generate": 1, "selftest": 1}
+COUNTS = {name: len(data.needed_by(name)) for name in data.commands() if name not in GRAMMARS}
 # Numbers: the most digits, and the range. That of `--from` also ends at the precision.
-RANGES = {"--depth": (3, 0, 20), "--precision": (3, 1, 40), "--from": (3, 1, 40), "--steps": (2, 1, 64)}
-FIRST = tuple(RANGES)  # the order of their tests, which come before those of a cost
-RANGES["--cap"] = (10, 1, 2**32 - 1)
-RANGES["N"] = (5, 1, 32767)
+RANGES = {
+    row["option"]: range_of(row) for row in data.table("options") if row["digits"] and row["commands"] != "refine"
+}
+FIRST = ("--depth", "--precision", "--from", "--steps")  # the order of their tests, which come before those of a cost
 # The depth that a report is gone on to.
-RANGES["H"] = (3, 1, 20)
-USUAL_PRECISION = 24
+RANGES["H"] = range_of(data.options_of("refine")[0])
+USUAL_PRECISION = int(next(row["left"] for row in data.options_of("verify") if row["option"] == "--precision"))
 
 
 def settings_of(grammar: Grammar, words: Sequence[str]) -> Optional[List[Setting]]:

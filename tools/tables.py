@@ -5,7 +5,9 @@
     tools/tables.py --check    ends with 1 where a document isn't what would be written
 
 tools/costs.tsv has what each crate's own proof takes, and how many functions it has; the table of docs/ARCHITECTURE.md
-is made from it and from the wrong bodies that stand beside the crates.
+is made from it and from the wrong bodies that stand beside the crates. docs/PROMISES.md is made from the crates' source
+and tools/promises.tsv. tools/words has the commands, options, statuses, limits, notes and causes: tables of GUIDE,
+FORMATS and MESSAGES, the man pages of plift and plift-view, the help and the completion are made from these.
 """
 
 from __future__ import annotations
@@ -14,6 +16,9 @@ import re
 import sys
 from pathlib import Path
 from typing import Callable, Dict, List, NamedTuple
+
+import manual
+import promises
 
 TOP = Path(__file__).resolve().parent.parent
 HEAD = "| Crate | Functions | Wrong bodies in the gate | Beside it | Own proof |\n|---|---|---|---|---|\n"
@@ -45,31 +50,45 @@ def cost_table(costs: List[Cost], bodies: Callable[[str], int]) -> str:
     return HEAD + "".join(rows) + f"| all | {functions} | {inside} | {beside} | {minutes:.0f} |\n"
 
 
-def made(name: str) -> str:
-    """A document with what is made in it."""
-    text = (TOP / name).read_text(encoding="utf-8")
+def architecture(text: str) -> str:
+    """ARCHITECTURE with its table made anew."""
     costs = costs_of((TOP / "tools" / "costs.tsv").read_text(encoding="utf-8"))
     table = cost_table(costs, lambda pattern: len(list(TOP.glob(pattern))))
     text, count = COSTS.subn(lambda _: table, text)
     if count != 1:
-        raise SystemExit(f"tables.py: {name} has {count} tables of what crates cost, and not one")
+        raise manual.Unmade(f"docs/ARCHITECTURE.md has {count} tables of what crates cost, and not one")
     return text
 
 
-DOCUMENTS: Dict[str, Callable[[str], str]] = {"docs/ARCHITECTURE.md": made}
+# What makes each file from what stands in it.
+FILES: Dict[str, Callable[[str], str]] = {
+    "docs/ARCHITECTURE.md": architecture,
+    promises.PAGE: lambda _: promises.made(),
+    **manual.makers(),
+}
+
+
+def stale() -> Dict[str, str]:
+    """The files that aren't as they are made, and how they are made."""
+    texts = {name: (TOP / name).read_text(encoding="utf-8") for name in FILES}
+    made = {name: FILES[name](text) for name, text in texts.items()}
+    return {name: text for name, text in made.items() if text != texts[name]}
 
 
 def main(words: List[str]) -> int:
-    """Writes the documents, or compares them."""
+    """Writes the files, or compares them."""
     if words not in ([], ["--check"]):
         print((__doc__ or "").strip(), file=sys.stderr)
         return 2
-    wrong = [name for name, make in DOCUMENTS.items() if make(name) != (TOP / name).read_text(encoding="utf-8")]
-    for name in wrong:
+    try:
+        wrong = stale()
+    except (promises.Wrong, manual.Unmade) as why:
+        raise SystemExit(f"tables.py: {why}") from None
+    for name, text in wrong.items():
         if words:
             print(f"tables.py: {name} isn't what is made from the data: tools/tables.py writes it", file=sys.stderr)
         else:
-            (TOP / name).write_text(DOCUMENTS[name](name), encoding="utf-8")
+            (TOP / name).write_text(text, encoding="utf-8")
             print(f"tables.py: {name} is written")
     return 1 if words and wrong else 0
 

@@ -8,6 +8,8 @@ from typing import List, Optional, Sequence, Tuple
 
 import recheck
 
+from .beside import NOTHING, Beside
+
 ACCEPT, REJECT, HOLDS, FAILS, UNKNOWN = "accept", "reject", "holds", "fails", "unknown"
 
 Span = Tuple[int, int]
@@ -48,6 +50,16 @@ class Map:
     kinds: Sequence[str]
     """Those of leaves that say yes, of those that say no, if there may be any, and of those that tell nothing."""
     leaves: List[Leaf]
+    beside: Beside = NOTHING
+    """What is known of it besides."""
+
+    def user(self, parameter: int, value: Fraction) -> Fraction:
+        """A parameter's value in the user's own numbers."""
+        return self.beside.user(self.names[parameter], value)
+
+    def interval(self, parameter: int, span: Span) -> Tuple[Fraction, Fraction]:
+        """The same of a span over the grid."""
+        return self.user(parameter, Fraction(span[0], self.grid)), self.user(parameter, Fraction(span[1], self.grid))
 
     def of_kind(self, kind: str) -> List[Leaf]:
         """The leaves of a kind."""
@@ -58,7 +70,7 @@ class Map:
         return sum((leaf.share for leaf in self.of_kind(kind)), Fraction(0))
 
 
-def read_map(text: recheck.Text) -> Map:
+def read_map(text: recheck.Text, beside: Beside = NOTHING) -> Map:
     """Reads a text to its end. Raises `recheck.Fault` where it isn't sound; the text then tells the place."""
     report = recheck.Report(text)
     report.test_rows()
@@ -79,4 +91,5 @@ def read_map(text: recheck.Text) -> Map:
         depth=report.depth,
         kinds=[*(kind.decode() for kind in report.tests()), UNKNOWN],
         leaves=leaves,
+        beside=beside,
     )

@@ -3,6 +3,7 @@
 from __future__ import annotations
 
 from fractions import Fraction
+from html import escape
 from typing import List, Optional, Tuple
 
 from .leaves import ACCEPT, FAILS, HOLDS, REJECT, UNKNOWN, Leaf, Map, Span
@@ -22,6 +23,7 @@ NO = (
 OPEN = ("#fff", '<circle cx="10000" cy="10000" r="2500" fill="#555"/>')
 LOOKS = {ACCEPT: YES, HOLDS: YES, REJECT: NO, FAILS: NO, UNKNOWN: OPEN}
 PLACES = (20, 160, 300)  # in the legend
+RESCALED = "; parameters from 0 to 1 in the report, here in your own numbers"
 ACROSS, UPRIGHT = 0, 1
 NAME = ('<text x="400" y="42" text-anchor="middle">', '<text x="20" y="126">')
 ENDS = ('<text x="400" y="60" font-size="11" text-anchor="middle">', '<text x="20" y="144" font-size="11">')
@@ -44,7 +46,9 @@ def asked(map_: Map) -> str:
     """What was asked."""
     within = "" if map_.steps is None else f" within {map_.steps} step{'s' * (map_.steps > 1)}"
     precisions = f"2^{map_.precision}" if map_.least == map_.precision else f"2^{map_.least} to 2^{map_.precision}"
-    what, cap = ("", "") if map_.cap is None else ("expected cost ", f", cap {map_.cap}")
+    label = map_.beside.label
+    reach = "" if label is None else f"P( reach {escape(label)} ) "
+    what, cap = (reach, "") if map_.cap is None else ("expected cost ", f", cap {map_.cap}")
     bound = f"{SIDES[map_.op]} {map_.bound[0]}/{map_.bound[1]}{within}{cap}"
     return f"{what}{bound}, numbers over {precisions}, depth {map_.depth}"
 
@@ -102,9 +106,10 @@ def legend(map_: Map) -> List[str]:
 def title(map_: Map) -> List[str]:
     """What was asked, of which model, and the shares of the kinds."""
     kind = "Markov chain" if map_.is_chain else "Markov decision process"
+    scaled = RESCALED if map_.beside.scale else ""
     return [
         f'<text x="20" y="26" font-size="15" font-weight="bold">{asked(map_)}</text>',
-        f'<text x="20" y="48">{kind}, states: {map_.states}</text>',
+        f'<text x="20" y="48">{kind}, states: {map_.states}{scaled}</text>',
         f'<text x="20" y="70">{shares(map_)}</text>',
     ]
 
@@ -156,13 +161,12 @@ def label(name: str) -> str:
     return f"<title>{name}</title>{short}"
 
 
-def places(span: Span, grid: int) -> Optional[int]:
-    """How many decimal places the ticks have, three, six or nine: the fewest in which a quarter of the span is ten
+def places(low: Fraction, high: Fraction) -> Optional[int]:
+    """How many decimal places the ticks have, three, six or nine: the fewest in which a quarter of the interval is ten
     units or more. None where nine are too few, or an end has more than four digits before them."""
-    if max(abs(end) for end in span) >= 10000 * grid:
+    if max(abs(low), abs(high)) >= 10000:
         return None
-    width = span[1] - span[0]
-    return next((count for count in (3, 6, 9) if grid * 40 <= width * 10**count), None)
+    return next((count for count in (3, 6, 9) if 40 <= (high - low) * 10**count), None)
 
 
 def rounded(value: Fraction, count: int) -> str:
@@ -173,14 +177,14 @@ def rounded(value: Fraction, count: int) -> str:
 
 def ticks(map_: Map, side: int, axis: int) -> List[str]:
     """Five marks with their numbers."""
-    low, high = map_.root[axis]
-    count = places((low, high), map_.grid)
+    low, high = map_.interval(axis, map_.root[axis])
+    count = places(low, high)
     if count is None:
         return []
     lines = [TICKS[side]]
     for quarter in range(5):
         at = f'x="{140 + 130 * quarter}" y="20"' if side == ACROSS else f'x="130" y="{680 - 130 * quarter}"'
-        value = Fraction(low * (4 - quarter) + high * quarter, 4 * map_.grid)
+        value = (low * (4 - quarter) + high * quarter) / 4
         lines.append(f"<text {at}>{rounded(value, count)}</text>")
     return [*lines, "</g>"]
 
@@ -189,7 +193,7 @@ def axis_lines(map_: Map, side: int, axis: Optional[int]) -> List[str]:
     """An axis' name, its exact ends and its ticks."""
     if axis is None:
         return []
-    low, high = (Fraction(end, map_.grid) for end in map_.root[axis])
+    low, high = map_.interval(axis, map_.root[axis])
     return [
         f"{NAME[side]}{label(map_.names[axis])}</text>",
         f"{ENDS[side]}from {low} to {high}</text>",
@@ -199,10 +203,10 @@ def axis_lines(map_: Map, side: int, axis: Optional[int]) -> List[str]:
 
 def cuts(map_: Map, slice_: Slice) -> List[str]:
     """The values of the other parameters, each on its line."""
-    return [
-        f'<text x="20" y="{84 + 20 * place}" font-size="13">{label(map_.names[parameter])} = {value}</text>'
-        for place, (parameter, value) in enumerate(slice_.cuts.items())
+    told = [
+        f"{label(map_.names[parameter])} = {map_.user(parameter, value)}" for parameter, value in slice_.cuts.items()
     ]
+    return [f'<text x="20" y="{84 + 20 * place}" font-size="13">{one}</text>' for place, one in enumerate(told)]
 
 
 def svg_text(map_: Map, slice_: Slice) -> str:

@@ -72,6 +72,7 @@ def cut_of(map_: Map, taken: Sequence[Optional[int]], place: int, text: str) -> 
     value = value_of(word)
     if value is None:
         raise refuse("Syntax")
+    value = map_.beside.own(name, value)
     parameter = map_.names.index(name)
     if parameter in taken:
         raise refuse("Repeated")

@@ -2,7 +2,6 @@
 
 from __future__ import annotations
 
-from fractions import Fraction
 from typing import List, Optional
 
 from .leaves import UNKNOWN, Leaf, Map
@@ -18,10 +17,8 @@ def leaf_line(map_: Map, label: str, leaf: Optional[Leaf]) -> str:
     """A leaf, where there is one: its kind, its depth and its rectangle."""
     if leaf is None:
         return f"{label} none"
-    ends = [
-        f" {name} {Fraction(low, map_.grid)} {Fraction(high, map_.grid)}"
-        for name, (low, high) in zip(map_.names, leaf.spans)
-    ]
+    intervals = [map_.interval(parameter, span) for parameter, span in enumerate(leaf.spans)]
+    ends = [f" {name} {low} {high}" for name, (low, high) in zip(map_.names, intervals)]
     return f"{label} {leaf.kind} depth {leaf.depth}{''.join(ends)}"
 
 

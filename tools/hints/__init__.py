@@ -5,7 +5,7 @@
 `note` is what plift (or plift-view, by `program`) wrote on standard error, `words` its words, and `text` the bytes that
 it read, or None where they aren't there. `status` counts where there is no note. At most four lines come back; a
 refusal that isn't known has none. What can't be seen in the words and the text is told by the rule that stands in
-docs/MESSAGES.md. Nothing is proved of a hint: the note is the answer.
+tools/words/notes.tsv. Nothing is proved of a hint: the note is the answer.
 """
 
 from __future__ import annotations
@@ -94,7 +94,7 @@ def found(refusal: Refusal) -> List[str]:
 
 
 def rule(refusal: Refusal) -> Optional[advice.Advice]:
-    """What docs/MESSAGES.md says of the note."""
+    """What tools/words/notes.tsv says of the note."""
     front = next((front for front in FRONTS if refusal.note.startswith(front)), "")
     rest = refusal.note[len(front) :] if front.endswith(" ") else refusal.note
     if front == "usage: " and refusal.program != "plift":

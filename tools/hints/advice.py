@@ -1,15 +1,13 @@
-"""What docs/MESSAGES.md says of a note: what it means, and what to do."""
+"""What tools/words/notes.tsv, of which docs/MESSAGES.md is made, says of a note: what it means, and what to do."""
 
 from __future__ import annotations
 
 import re
-from pathlib import Path
 from typing import Dict, List, NamedTuple, Optional
 
-TOP = Path(__file__).resolve().parent.parent.parent
-PAGE = TOP / "docs" / "MESSAGES.md"
-INSTALLED = TOP.parent.parent / "share" / "doc" / "plift" / "docs" / "MESSAGES.md"  # TOP is libexec/plift there
-HEADING = re.compile(r"## Status ([0-9]+(?: of plift-view)?)\b")
+from hints import data
+
+SECTION = {"2 view": "2 of plift-view"}  # how the page calls it; any other table is of the status that it begins with
 
 
 class Advice(NamedTuple):
@@ -26,21 +24,14 @@ class Row(NamedTuple):
     advice: Advice
 
 
-def rows_of(page: str) -> Dict[str, List[Row]]:
-    """The rows of all tables, by the status of the heading above them."""
-    rows: Dict[str, List[Row]] = {}
-    section = ""
-    for line in page.splitlines():
-        if line.startswith("#"):
-            match = HEADING.match(line)
-            section = match[1] if match else ""
-        cells = [cell.strip() for cell in line.strip().strip("|").split("|")]
-        if line.startswith("|--"):
-            rows[section].pop()  # the head of the table
-        elif line.startswith("|") and len(cells) == 3:
-            notes = re.findall(r"`([^`]+)`(?=,|$)", cells[0])
-            rows.setdefault(section, []).append(Row(notes, Advice(*cells[1:])))
-    return rows
+def rows() -> Dict[str, List[Row]]:
+    """All notes, by their status."""
+    found: Dict[str, List[Row]] = {}
+    for row in data.table("notes"):
+        notes = re.findall(r"`([^`]+)`(?=,|$)", row["notes"])
+        section = SECTION.get(row["table"], row["table"].split()[0])
+        found.setdefault(section, []).append(Row(notes, Advice(row["meaning"], row["remedy"])))
+    return found
 
 
 def matches(told: str, note: str) -> bool:
@@ -50,19 +41,9 @@ def matches(told: str, note: str) -> bool:
     return bool(re.fullmatch(re.sub(r"(?<![A-Za-z])[A-Z](?![A-Za-z])", r"[^ :]+", re.escape(told)), note))
 
 
-def page() -> str:
-    """The text of the page; nothing where it isn't there."""
-    for place in (PAGE, INSTALLED):
-        try:
-            return place.read_text(encoding="utf-8")
-        except OSError:
-            continue
-    return ""
-
-
 def advice_on(section: str, note: str) -> Optional[Advice]:
-    """The page's row for a note, without the front that all notes of the section share."""
-    for row in rows_of(page()).get(section, []):
+    """The row for a note, without the front that all notes of the section share."""
+    for row in rows().get(section, []):
         if any(matches(told, note) for told in row.notes):
             return row.advice
     return None

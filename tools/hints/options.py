@@ -2,45 +2,41 @@
 
 from __future__ import annotations
 
-from typing import List, Optional, Sequence, Tuple
+from typing import Callable, List, Optional, Sequence, Tuple
+
+from hints import data
 
 Setting = Tuple[str, Optional[str]]
 
-VALUED = ["--goal", "--bound", "--region", "--depth", "--precision"]
-RANGED = [*VALUED, "--from"]  # of `verify`
-STEPPED = [*VALUED, "--steps"]  # of `bounded`
-FORMULATED = ["--formula", "--region", "--depth", "--precision"]  # of `property`
-COSTED = ["--goal", "--reward", "--budget", "--cap", "--region", "--depth", "--precision"]  # of `cost`
-NAMED = [*RANGED, "--steps", "--formula", "--reward", "--budget", "--cap"]  # of all commands
-VIEWED = ["--x", "--y", "--at"]
-FLAGS = ["--summary", "--follow"]
+VALUED = data.names_of("lumped")  # of all that have a goal and a bound
+RANGED = data.names_of("verify")
+STEPPED = data.names_of("bounded")
+FORMULATED = data.names_of("property")
+COSTED = data.names_of("cost")
+NAMED = list(dict.fromkeys([*RANGED, *STEPPED, *FORMULATED, *COSTED]))  # of all commands
+VIEWED = data.names_of("plift-view")
+FLAGS = [row["option"] for row in data.options_of("plift-view") if not row["value"]]
+
+
+def settings_of(words: Sequence[str], takes_value: Callable[[str], bool], takes_empty: bool) -> List[Setting]:
+    """The words as options: one with `=` has its value, which may be empty where that is taken; any other takes the
+    next word where it takes a value."""
+    settings: List[Setting] = []
+    rest = list(words)
+    while rest:
+        name, mark, value = rest.pop(0).partition("=")
+        if mark:
+            settings.append((name, value if value or takes_empty else None))
+        else:
+            settings.append((name, rest.pop(0) if rest and takes_value(name) else None))
+    return settings
 
 
 def options_of(words: Sequence[str]) -> List[Setting]:
-    """The options behind a command: a word with `=` is one with its value, any other takes the next word."""
-    settings: List[Setting] = []
-    at = 0
-    while at < len(words):
-        value: Optional[str]
-        name, mark, value = words[at].partition("=")
-        at += 1
-        if not mark:
-            value = words[at] if at < len(words) else None
-            at += 1
-        settings.append((name, value or None if mark else value))
-    return settings
+    """The options behind a command, which all take a value."""
+    return settings_of(words, lambda _: True, False)
 
 
 def view_options_of(words: Sequence[str]) -> List[Setting]:
     """The options of plift-view, where flags take no value."""
-    settings: List[Setting] = []
-    at = 0
-    while at < len(words):
-        value: Optional[str]
-        name, mark, value = words[at].partition("=")
-        at += 1
-        if not mark and name in VIEWED:
-            value = words[at] if at < len(words) else None
-            at += 1
-        settings.append((name, value if mark or name in VIEWED else None))
-    return settings
+    return settings_of(words, VIEWED.__contains__, True)
