@@ -13,7 +13,9 @@ sys.path.append(str(Path(__file__).resolve().parents[1] / "property"))
 
 from processes import Box, Process, SPANS, model_text, random_process, region_words  # noqa: E402
 
-COSTS = [0, 0, 0, 1, 1, 2, 5, Fraction(1, 2), Fraction(1, 3), Fraction(5, 3), Fraction(7, 4), Fraction(1, 1000)]
+__all__ = ["Box", "Process"]
+WHOLE, BROKEN = (0, 0, 0, 1, 1, 2, 5), ("1/2", "1/3", "5/3", "7/4", "1/1000")
+COSTS = [*map(Fraction, WHOLE), *map(Fraction, BROKEN)]
 CAPS = [1, 2, 3, 4, 7, 10, 10, 20, 100, 2**32 - 1]
 REWARDS = ["steps", "x-1", '"my.cost"', "2"]
 
@@ -38,7 +40,6 @@ class Asked(NamedTuple):
 
 def spelled(chance: random.Random, value: Fraction) -> str:
     """A number as a group of rewards may have it."""
-    value = Fraction(value)
     ways = [str(value), f"{3 * value.numerator}/{3 * value.denominator}", f"{value.numerator}e1/{value.denominator}0"]
     if 1000 % value.denominator == 0:
         ways.append(f"{value.numerator * 1000 // value.denominator}e-3")
@@ -74,7 +75,7 @@ def priced_text(chance: random.Random, process: Process, asked: Asked) -> bytes:
 def random_asked(chance: random.Random, process: Process) -> Asked:
     """A question of a process. The budget is the cap."""
     cap = chance.choice(CAPS)
-    costs = [Fraction(chance.choice(COSTS)) for _ in process.states]
+    costs = [chance.choice(COSTS) for _ in process.states]
     if chance.random() < 0.1:
         costs = [cost * cap for cost in costs]
     return Asked(

@@ -4,7 +4,7 @@ import unittest
 from typing import List
 
 import priced  # noqa: F401 (finds the modules of tests/property)
-from asking import TOP, Answer, ask, checked, has_program
+from asking import TOP, Answer, ask, checked, has_program, line_of
 
 LOOP = (TOP / "examples" / "loop.drn").read_bytes()
 PRICED = LOOP.replace(b"@model", b"@reward_models\nsteps\n@model").replace(b"state 0 init", b"state 0 [1] init")
@@ -25,23 +25,9 @@ def words(
     reward: str, budget: str, cap: str, region: str = ENDS, goal: str = "heads", depth: str = "0", precision: str = "4"
 ) -> List[str]:
     """A line of `cost`."""
-    return [
-        "cost",
-        "--goal",
-        goal,
-        "--reward",
-        reward,
-        "--budget",
-        budget,
-        "--cap",
-        cap,
-        "--region",
-        region,
-        "--depth",
-        depth,
-        "--precision",
-        precision,
-    ]
+    return line_of(
+        "cost", goal=goal, reward=reward, budget=budget, cap=cap, region=region, depth=depth, precision=precision
+    )
 
 
 # A text, the words, and what stands behind the rows, but for precision, depth, grid and box.

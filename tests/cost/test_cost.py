@@ -23,7 +23,7 @@ from spent import most_spent, rows_at, spent_by_some
 import asking
 from asking import checked, wrong_text
 from cheapest import answer, least_numbers
-from processes import samples
+from processes import samples, some_of
 from reference import Leaf, leaves_of
 
 COUNT = 150
@@ -82,7 +82,7 @@ def fault_of(chance: random.Random) -> str:
     wrong = wrong_text(asked.words(), text, wanted, sound)
     if wrong:
         return wrong
-    for leaf in chance.sample(accepting, min(len(accepting), MOST_LEAVES)):
+    for leaf in some_of(chance, accepting, MOST_LEAVES):
         for at in samples(chance, leaf.box):
             lie = lie_of(chance, process, asked, leaf, at)
             if lie:

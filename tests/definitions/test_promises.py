@@ -1,90 +1,156 @@
-"""What docs/PROMISES.md names stands in the source: each section's crate is there, and so is each clause, definition
-and law that a row names, in that crate or in one that it stands on; and no crate with a contract is left out."""
+"""docs/PROMISES.md is as tools/promises.tsv and the source make it; what its sentences name stands in the source."""
 
 from __future__ import annotations
 
-import re
+import sys
 import unittest
-from functools import lru_cache
 from pathlib import Path
+from typing import List
 
 TOP = Path(__file__).resolve().parents[2]
-PAGE = TOP / "docs" / "PROMISES.md"
-SECTION = re.compile(r"^## (.+?): .*$", re.M)
-NAME = re.compile(r"`([A-Za-z_][A-Za-z0-9_.]*)`")
-WORD = re.compile(r"[A-Za-z_][A-Za-z0-9_]*")
+sys.dont_write_bytecode = True
+sys.path.insert(0, str(TOP / "tools"))
+import promises  # noqa: E402
+from clauses import Reader, crates, functions  # noqa: E402
+
+DATA = promises.DATA.read_text(encoding="utf-8")
+SOURCE = """
+/// A trait.
+pub trait Speaks {
+    /// Says it.
+    fn say(&self) -> u32
+        ensures small { result < 2 };
+}
+
+impl Speaks for Told {
+    fn say(&self) -> u32
+        ensures { result ≡ 1 }
+    {
+        1
+    }
+}
+
+impl<'a> Told {
+    /// The first.
+    /// Both lines.
+    #[inline(always)]
+    pub fn one(
+        &self,
+    ) -> u32
+        requires { ⊤ }
+        // Why it is one.
+        ensures value { result ≡ 1 }
+        ensures { result ≡ 1 }
+    {
+        1
+    }
+
+    pub(crate) fn inner(&self)
+        ensures inside { ⊤ }
+    {
+    }
+
+    pub fn bare(&self) {}
+}
+
+/// Holds a law. It does nothing.
+pub fn a_law()
+    ensures law { ALaw }
+{}
+
+pub fn hidden(n: u32) -> u32
+    ensures { result ≡ n }
+{
+    n
+}
+"""
 
 
-def below() -> dict[str, list[str]]:
-    """What each crate stands on, of those that are here."""
-    lines = [
-        line.split("#")[0].partition(":") for line in (TOP / "crates.txt").read_text(encoding="utf-8").splitlines()
-    ]
-    named = {head.split()[0]: rest.split() for head, colon, rest in lines if colon}
-    return {crate: [name for name in names if name in named] for crate, names in named.items()}
-
-
-@lru_cache(maxsize=None)
-def words_in(crate: str) -> frozenset[str]:
-    """All words of a crate's code and definitions."""
-    files = [*(TOP / "crates" / crate / "src").glob("*.rt"), *(TOP / "crates" / crate / "specs").rglob("*.antt")]
-    return frozenset(word for file in files for word in WORD.findall(file.read_text(encoding="utf-8")))
-
-
-def closure(crates: list[str]) -> set[str]:
-    """These crates and all that they stand on."""
-    needs, found, due = below(), set[str](), list(crates)
-    while due:
-        crate = due.pop()
-        if crate not in found:
-            found.add(crate)
-            due += needs[crate]
-    return found
-
-
-def sections() -> list[tuple[list[str], str]]:
-    """The crates of each section, and its text."""
-    parts = SECTION.split(PAGE.read_text(encoding="utf-8"))[1:]
-    return [(re.findall(r"\w+", head.replace(" and ", " ")), text) for head, text in zip(parts[::2], parts[1::2])]
-
-
-def lost(crates: list[str], text: str) -> list[str]:
-    """What the second column of a section's tables names that isn't there."""
-    cells = [line.strip("|").split(" | ")[-1] for line in text.splitlines() if line.startswith("| ")]
-    names = {part for cell in cells for name in NAME.findall(cell) for part in name.split(".")}
-    known = frozenset[str]().union(*(words_in(crate) for crate in closure(crates)))
-    return sorted(name for name in names if name not in known)
+def with_row(row: str) -> str:
+    """The data with a row more behind that which begins the section of lift_lump."""
+    title = next(line for line in DATA.splitlines() if line.startswith("lift_lump\t=title"))
+    return DATA.replace(title, f"{title}\n{row}")
 
 
 class Promises(unittest.TestCase):
     """The page."""
 
-    def test_crates(self) -> None:
-        """Sections are of crates that are there, and each crate that others may rely on has one."""
-        told = [crate for crates, _ in sections() for crate in crates]
-        self.assertEqual([crate for crate in told if not (TOP / "crates" / crate).is_dir()], [])
-        promising = {
-            file.parent.parent.name
-            for file in TOP.glob("crates/*/src/lib.rt")
-            if not file.parent.parent.name.endswith("_tests") and not file.parent.parent.name.startswith("test_")
-        }
-        self.assertEqual(sorted(promising - set(told)), [])
+    def test_page(self) -> None:
+        """It is as it is made."""
+        page = (TOP / promises.PAGE).read_text(encoding="utf-8")
+        self.assertEqual(page, promises.made(), "tools/tables.py makes it anew")
 
-    def test_names(self) -> None:
-        """Each clause, definition and law that a row names stands there."""
-        count = 0
-        for crates, text in sections():
-            with self.subTest(crates):
-                self.assertEqual(lost(crates, text), [])
-            count += len(NAME.findall(text))
-        self.assertGreater(count, 1000)
+    def test_each_crate_has_a_section(self) -> None:
+        """A crate that promises something and has none is refused."""
+        rows = [line for line in DATA.splitlines() if not line.startswith("lift_lump\t")]
+        with self.assertRaisesRegex(promises.Wrong, "lift_lump has no section"):
+            promises.page("\n".join(rows) + "\n")
 
-    def test_a_name_that_is_not_there(self) -> None:
-        """It is told."""
+    def test_what_is_refused(self) -> None:
+        """Clauses, functions, crates and definitions that don't stand in the source, and rows out of place."""
+        for row, said in (
+            ("lift_lump\tlump.no_such\t\tIt is so.", "lump.no_such .* doesn't stand in the source"),
+            ("lift_lump\tno_such.lumped\t\tIt is so.", "no_such.lumped .* doesn't stand"),
+            ("lift_lump\tlift_rows/lump.lumped\t\tIt is so.", "lift_rows/lump.lumped .* doesn't stand"),
+            ("lift_lump\tnowhere/lump.lumped\t\tIt is so.", "no crate nowhere"),
+            ("lift_lump\tlump.lumped\tIsLumped.no_such_part\tIt is so.", "IsLumped.no_such_part .* doesn't stand"),
+            ("lift_rows\tadmit.case\t\tIt is so.", "a row of lift_rows stands outside its section"),
+            ("lift_lump\tlump.lumped\t\t", "isn't four parts with a sentence"),
+            ("lift_lump\tlump.lumped\tIt is so.", "isn't four parts with a sentence"),
+        ):
+            with self.subTest(row), self.assertRaisesRegex(promises.Wrong, said):
+                promises.page(with_row(row))
+
+    def test_a_sentence_more(self) -> None:
+        """It stands in its table, and its clause isn't listed as one without a sentence."""
+        crate, it = next((crate, it) for crate in crates() for it, _ in promises.left(crate, set()))
+        self.assertNotEqual(promises.left(crate, set()), [])
+        told = {(crate, it.path, clause.name) for clause in it.clauses}
+        self.assertNotIn(it, [one for one, _ in promises.left(crate, told)])
+        page = promises.page(with_row("lift_lump\tLumped::block\tIsLumped\tIt is so."))
+        self.assertIn("\n| It is so. | `Lumped::block` (`IsLumped`) |\n", page)
+
+    def test_all_public_clauses_are_there(self) -> None:
+        """A public function stands in the page, by a sentence of its crate's section or in what is left of it."""
+        page = (TOP / promises.PAGE).read_text(encoding="utf-8")
+        functions_of = [it for crate in crates() for it in functions(crate) if it.is_public]
+        self.assertGreater(len(functions_of), 450)
+        self.assertEqual([it.path for it in functions_of if f"`{it.path}`" not in page], [])
+
+
+class Source(unittest.TestCase):
+    """The source as it is read."""
+
+    def read(self) -> List[str]:
+        """Each function in words."""
+        found = Reader("told", Path("told.rt"), ["Speaks", "Told", "a_law"]).read(SOURCE)
+        return [
+            f"{it.path} {it.is_public} {it.is_law} {it.comment!r} {[(one.name, one.comment) for one in it.clauses]}"
+            for it in found
+        ]
+
+    def test_functions(self) -> None:
+        """Traits, types, laws; what isn't given to others; comments above functions and clauses."""
         self.assertEqual(
-            lost(["lift_lump"], "| What | `lump`, `no_such_clause` (`NoSuchThing.part`) |"),
-            ["NoSuchThing", "no_such_clause"],
+            self.read(),
+            [
+                "Speaks::say True False 'Says it.' [('small', '')]",
+                "Told::say False False '' [('', '')]",
+                "Told::one True False 'The first. Both lines.' [('value', 'Why it is one.'), ('', '')]",
+                "Told::inner False False '' [('inside', '')]",
+                "a_law True True 'Holds a law. It does nothing.' [('law', '')]",
+                "hidden False False '' [('', '')]",
+            ],
         )
+
+    def test_clauses_are_counted_as_they_stand(self) -> None:
+        """No clause of the crates is passed over."""
+        for crate in crates():
+            files = (TOP / "crates" / crate / "src").rglob("*.rt")
+            lines = [line.split() for file in files for line in file.read_text(encoding="utf-8").splitlines()]
+            stand = sum(1 for words in lines if words and words[0] in ("ensures", "ensures*"))
+            with self.subTest(crate):
+                self.assertEqual(sum(len(it.clauses) for it in functions(crate)), stand)
 
 
 if __name__ == "__main__":

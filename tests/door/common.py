@@ -9,7 +9,7 @@ import tempfile
 import unittest
 from pathlib import Path
 from types import ModuleType
-from typing import Any, List, Mapping, Optional, Sequence, Union
+from typing import Any, Dict, List, Mapping, Optional, Sequence, Tuple, Union
 
 sys.dont_write_bytecode = True
 TOP = Path(__file__).resolve().parents[2]
@@ -48,11 +48,14 @@ echo "end $crate" >>"$CALLS"
 [ "$1" = lib ] || exit 2
 """
 
+COMMANDS = ["verify", "bounded", "property", "cost", "lumped", "check", "migrate", "refine", "generate", "selftest"]
+
 
 def tool(name: str) -> ModuleType:
     """Loads a module of tools/."""
     sys.path.insert(0, str(TOP / "tools"))
     spec = importlib.util.spec_from_file_location(name, TOP / "tools" / f"{name}.py")
+    assert spec and spec.loader
     module = importlib.util.module_from_spec(spec)
     spec.loader.exec_module(module)
     return module
@@ -74,7 +77,7 @@ def write_program(path: Path, text: str) -> None:
 class DoorCase(unittest.TestCase):
     """A test with a checkout of its own: launchers, crates that stand for the real ones, and a fake `rt`."""
 
-    CRATES = {
+    CRATES: Dict[str, List[str]] = {
         "lift_base": [],
         "lift_poly": [],
         "plift_top": ["lift_base", "lift_poly", "clap"],
@@ -84,7 +87,7 @@ class DoorCase(unittest.TestCase):
         "other": [],
     }
     # What is copied from this checkout.
-    PARTS = ("plift", "plift-view", "VERSION", "tools", "man", "completion", "install")
+    PARTS: Tuple[str, ...] = ("plift", "plift-view", "VERSION", "tools", "man", "completion", "install")
 
     def setUp(self) -> None:
         self.room = Path(tempfile.mkdtemp(prefix="door test-"))
@@ -127,7 +130,7 @@ class DoorCase(unittest.TestCase):
         shell: Sequence[str] = (),
         environment: Mapping[str, str] = {},
         **how: Any,
-    ) -> subprocess.CompletedProcess:
+    ) -> "subprocess.CompletedProcess[bytes]":
         """Runs ./plift, or another launcher, on these words."""
         command = [*shell, str(door or self.top / "plift"), *words]
         how = {"input": b"", **how} if "stdin" not in how else how

@@ -65,11 +65,11 @@ class Parts(unittest.TestCase):
 
 
 class Builds(DoorCase):
-    def start(self, crate: str = "plift", **environment: str) -> subprocess.Popen:
+    def start(self, crate: str = "plift", **environment: str) -> "subprocess.Popen[str]":
         words = ["python3", str(self.top / "tools/build.py"), crate, str(self.top / "build/logs")]
         return subprocess.Popen(words, env={**self.environment, **environment}, stderr=subprocess.PIPE, text=True)
 
-    def end(self, started: subprocess.Popen) -> Tuple[int, str]:
+    def end(self, started: "subprocess.Popen[str]") -> Tuple[int, str]:
         told = started.communicate(timeout=60)[1]
         return started.returncode, told
 
@@ -172,6 +172,7 @@ class Builds(DoorCase):
         first = self.start(SLOW_CRATES="plift_top")
         self.wait_for("slow")
         second = self.start()
+        assert second.stderr
         told = second.stderr.readline()
         self.assertRegex(told, "plift: another build, or rt, is at work in crates/.*waits for it")
         first.send_signal(signal.SIGTERM)
@@ -182,6 +183,7 @@ class Builds(DoorCase):
         lock = os.open(self.top / "crates/lift_base", os.O_RDONLY)
         fcntl.flock(lock, fcntl.LOCK_EX)
         second = self.start()
+        assert second.stderr
         second.stderr.readline()
         self.built()
         os.close(lock)

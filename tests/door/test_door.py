@@ -7,12 +7,12 @@ import signal
 import subprocess
 import time
 import unittest
-from typing import Dict
+from typing import Dict, List
 
-from common import DoorCase
+from common import COMMANDS, DoorCase
 
 WORDS = ["verify", "", " two  blanks ", "it's \"quoted\"", "a\nline\n", "*", "$HOME", "--goal=-", "\\"]
-SHELLS = [[], ["bash"], ["bash", "--posix"]]
+SHELLS: List[List[str]] = [[], ["bash"], ["bash", "--posix"]]
 HINTS = """import os, sys
 print("hint:", os.environ["PLIFT_NOTE"], sys.argv[1:], sys.stdin.read(), file=sys.stderr)
 """
@@ -34,6 +34,10 @@ class Door(DoorCase):
         (self.top / "tools/hints.py").write_text(HINTS)
         return {"PLIFT_HINTS": "1"}
 
+    def with_and_without_hints(self) -> List[Dict[str, str]]:
+        """What the environment has besides, without hints and with them."""
+        return [{}, self.hinted()]
+
 
 class Answers(Door):
     """What is told without a program."""
@@ -45,18 +49,7 @@ class Answers(Door):
                 self.assertEqual(self.run_door(*words, shell=shell).stdout, texts["plift"], words)
                 view = self.run_door(*words, shell=shell, door=self.top / "plift-view")
                 self.assertEqual(view.stdout, texts["plift-view"], words)
-        for command in (
-            "verify",
-            "bounded",
-            "property",
-            "cost",
-            "lumped",
-            "check",
-            "migrate",
-            "refine",
-            "generate",
-            "selftest",
-        ):
+        for command in COMMANDS:
             asked = (
                 ["help", command],
                 ["--help", command],
@@ -106,7 +99,7 @@ class Runs(Door):
     def test_words_and_streams_are_unchanged(self) -> None:
         self.built()
         told = "".join(f"<{word}>" for word in WORDS) + "\n"
-        for environment in ({}, self.hinted()):
+        for environment in self.with_and_without_hints():
             for shell in SHELLS:
                 given = b"in\0put\n"
                 ran = self.run_door(*WORDS, shell=shell, input=given, environment={**environment, "COPY": "1"})
@@ -150,7 +143,7 @@ class Runs(Door):
 
     def test_closed_streams(self) -> None:
         self.built()
-        for environment in ({}, self.hinted()):
+        for environment in self.with_and_without_hints():
             for shut in ("<&-", "2>&-", "<&- 2>&-"):
                 shell = ["sh", "-c", f'"$@" {shut}', "sh"]
                 ran = self.run_door("check", shell=shell, environment={**environment, "STATUS": "5"})
@@ -158,7 +151,7 @@ class Runs(Door):
 
     def test_a_program_that_dies_by_a_signal(self) -> None:
         self.built()
-        for environment in ({}, self.hinted()):
+        for environment in self.with_and_without_hints():
             for shell in SHELLS:
                 for name in ("TERM", "KILL", "SEGV"):
                     ran = self.run_door(shell=shell, environment={**environment, "DIE": name})
@@ -168,7 +161,7 @@ class Runs(Door):
     def test_a_signal_ends_the_program_too(self) -> None:
         self.built()
         slept = self.room / "slept"
-        for environment in ({}, self.hinted()):
+        for environment in self.with_and_without_hints():
             for shell in SHELLS:
                 for number in (signal.SIGTERM, signal.SIGINT, signal.SIGHUP, signal.SIGQUIT):
                     started = subprocess.Popen(
@@ -181,6 +174,7 @@ class Runs(Door):
                         time.sleep(0.01)
                     program = int(slept.read_text())
                     started.send_signal(number)
+                    assert started.stderr
                     ended = started.wait(timeout=30), started.stderr.read()
                     # Bash passes QUIT over, and tells it by its status.
                     told = 131 if shell and environment and number == signal.SIGQUIT else -number
@@ -272,7 +266,7 @@ class Finds(Door):
     def test_a_start_takes_no_other_process(self) -> None:
         self.built()
         self.assertEqual(self.run_door("check").stderr, b"")
-        for environment in ({}, self.hinted()):
+        for environment in self.with_and_without_hints():
             ran = self.run_door("check", environment={**environment, "PATH": str(self.room / "nothing")})
             self.assertEqual((ran.returncode, ran.stdout, ran.stderr), (0, b"<check>\n", b""))
 

@@ -19,12 +19,12 @@ class Install(DoorCase):
         super().setUp()
         self.prefix = self.room / "it's a prefix"
 
-    def install(self, *words: object, **environment: str) -> subprocess.CompletedProcess:
+    def install(self, *words: object, **environment: str) -> "subprocess.CompletedProcess[str]":
         environment = {**self.environment, **environment}
         command = [str(self.top / "install"), *map(str, words)]
         return subprocess.run(command, capture_output=True, text=True, env=environment, cwd=self.room)
 
-    def run_installed(self, name: str, *words: str, **how: Any) -> subprocess.CompletedProcess:
+    def run_installed(self, name: str, *words: str, **how: Any) -> "subprocess.CompletedProcess[bytes]":
         return self.run_door(*words, door=self.prefix / "bin" / name, **how)
 
     def installed(self, root: Path) -> List[str]:
@@ -42,15 +42,15 @@ class Install(DoorCase):
         self.assertEqual(sorted(path.name for path in (self.prefix / "bin").iterdir()), COMMANDS)
         for shell in ([], ["sh"], ["bash"]):
             wish = {"COPY": "1", "STATUS": "4"}
-            ran = self.run_installed("plift", "a  b", "", shell=shell, input=b"x", environment=wish, cwd="/")
-            self.assertEqual((ran.returncode, ran.stdout, ran.stderr), (4, b"<a  b><>\nx", b""))
+            shown = self.run_installed("plift", "a  b", "", shell=shell, input=b"x", environment=wish, cwd="/")
+            self.assertEqual((shown.returncode, shown.stdout, shown.stderr), (4, b"<a  b><>\nx", b""))
         self.assertEqual(self.run_installed("plift", "--version").stdout, b"plift 0.9.0 (proved)\n")
         text = (TOP / "man/help/plift-view.txt").read_bytes()
         self.assertEqual(self.run_installed("plift-view", "--help").stdout, text)
-        ran = self.run_installed("plift", "--quick", "check")
-        self.assertEqual((ran.returncode, ran.stdout, ran.stderr), (0, b"<check>\n", b""))
-        ran = self.run_installed("plift-recheck", input=(TOP / "examples/coin.report").read_bytes())
-        self.assertEqual(ran.stdout, b"sound accept 0 reject 1 unknown 0\n")
+        shown = self.run_installed("plift", "--quick", "check")
+        self.assertEqual((shown.returncode, shown.stdout, shown.stderr), (0, b"<check>\n", b""))
+        shown = self.run_installed("plift-recheck", input=(TOP / "examples/coin.report").read_bytes())
+        self.assertEqual(shown.stdout, b"sound accept 0 reject 1 unknown 0\n")
         pages = ("man/man1/plift.1", "man/man1/plift-view.1")
         for page in (*pages, "bash-completion/completions/plift", "zsh/site-functions/_plift"):
             self.assertTrue((self.prefix / "share" / page).is_file(), page)
@@ -111,8 +111,10 @@ class Install(DoorCase):
 
     def test_tiles_run_without_the_checkout(self) -> None:
         for part in ("plift-tiles", "tiles", "lab"):
-            copy = shutil.copytree if (TOP / part).is_dir() else shutil.copy2
-            copy(TOP / part, self.top / part)
+            if (TOP / part).is_dir():
+                shutil.copytree(TOP / part, self.top / part)
+            else:
+                shutil.copy2(TOP / part, self.top / part)
         self.both_built()
         self.assertEqual(self.install(self.prefix).returncode, 0)
         self.top.rename(self.room / "moved away")

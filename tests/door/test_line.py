@@ -6,23 +6,14 @@ import subprocess
 import sys
 import unittest
 from pathlib import Path
-from typing import Callable, List, Optional, Sequence, Union
+from typing import Callable, Dict, List, Optional, Sequence, Union
 
-from common import TOP, quick_program, tool
+from common import COMMANDS, TOP, quick_program, tool
 
 line = tool("line")
 
 WORDS = [
-    "verify",
-    "bounded",
-    "property",
-    "cost",
-    "lumped",
-    "check",
-    "migrate",
-    "refine",
-    "generate",
-    "selftest",
+    *COMMANDS,
     "--goal",
     "--bound",
     "--region",
@@ -333,9 +324,9 @@ class Line(unittest.TestCase):
         for words, is_fault in VIEW.items():
             self.assertEqual(line.view_note(words.split()), "usage: words" if is_fault else None, words)
 
-    def told(self, word: Union[str, bytes], hints: str) -> subprocess.CompletedProcess:
+    def told(self, word: Union[str, bytes], hints: str) -> "subprocess.CompletedProcess[bytes]":
         """What is told of a word, where hints are asked for or not."""
-        words = ["python3", TOP / "tools/line.py", "plift", word]
+        words = ["python3", str(TOP / "tools/line.py"), "plift", word]
         return subprocess.run(words, env={**os.environ, "PLIFT_HINTS": hints}, capture_output=True)
 
     def test_note_and_hint(self) -> None:
@@ -352,8 +343,9 @@ class Line(unittest.TestCase):
 
     def test_closed_standard_error(self) -> None:
         """The status is the same where nobody hears the note, and it isn't written elsewhere."""
+        environments: List[Dict[str, str]] = [{}, {"PLIFT_HINTS": "1"}]
         for place in ("&-", "/dev/full"):
-            for environment in ({}, {"PLIFT_HINTS": "1"}):
+            for environment in environments:
                 command = [
                     "sh",
                     "-c",

@@ -43,7 +43,7 @@ class Release(DoorCase):
         who = ["-c", "user.name=x", "-c", "user.email=x@example.org"]
         subprocess.run(["git", "-C", str(self.top), *who, *words], check=True)
 
-    def release(self, *words: object) -> subprocess.CompletedProcess:
+    def release(self, *words: object) -> "subprocess.CompletedProcess[str]":
         command = [str(self.top / "tools/release"), str(self.out), *map(str, words)]
         return subprocess.run(command, capture_output=True, text=True, env=self.environment)
 
@@ -157,7 +157,9 @@ class Release(DoorCase):
         for name in ("plift", "plift-view"):
             program = self.top / "build/quick" / name
             program.parent.mkdir(parents=True, exist_ok=True)
-            program.write_bytes(quick_program(name).read_bytes())
+            built = quick_program(name)
+            assert built
+            program.write_bytes(built.read_bytes())
             program.chmod(0o755)
         (self.top / "tools/quick.py").touch()
         os.utime(self.top / "tools/quick.py", (1000, 1000))

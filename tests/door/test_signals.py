@@ -9,7 +9,7 @@ import subprocess
 import time
 import unittest
 from pathlib import Path
-from typing import List, Mapping
+from typing import Dict, List, Mapping, Tuple
 
 from common import TOP, DoorCase, write_program
 
@@ -149,12 +149,13 @@ class Writing(DoorCase):
     def test_refused_install(self) -> None:
         """It leaves no folder, however it is refused."""
         prefix = self.room / "a/new/prefix"
-        for words, environment in (
+        refused: List[Tuple[List[str], Dict[str, str]]] = [
             ([], {}),
             (["--quick"], {}),
             ([], {"DESTDIR": str(self.room / "b")}),
             (["--uninstall"], {}),
-        ):
+        ]
+        for words, environment in refused:
             ran = self.ends('"$@"', str(self.top / "install"), *words, str(prefix), environment=environment)
             self.assertIn(ran.returncode, (1, 70))
             self.assertFalse((self.room / "a").exists() or (self.room / "b").exists(), words)

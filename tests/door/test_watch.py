@@ -82,9 +82,11 @@ class Watch(DoorCase):
             with open(self.room / "out", mode) as out:
                 script = [sys.executable, str(self.top / "tools/watch.py")]
                 process = subprocess.Popen(script, stdout=out, stderr=subprocess.PIPE)
-            time.sleep(1.5)
+            first = b""
+            while process.stderr and not re.search(b"so far|%", first) and process.poll() is None:
+                first += process.stderr.read(1)
             process.terminate()
-            told = (process.communicate()[1] or b"").decode()
+            told = (first + (process.communicate()[1] or b"")).decode()
             self.assertTrue(re.search("plift: [0-9]+ s so far", told), told)
             self.assertIn(due, told)
             self.assertEqual("%" in told, bool(due))

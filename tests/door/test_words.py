@@ -8,13 +8,12 @@ import tempfile
 import unittest
 from typing import Set
 
-from common import TOP, quick_program, tool
+from common import COMMANDS, TOP, quick_program, tool
 
 line = tool("line")
 OPTION = re.compile(r"(?<![\w-])--[a-z]+")
 # What the launchers answer themselves.
 DOOR = {"--help", "--version", "--quick"}
-COMMANDS = ["verify", "bounded", "property", "cost", "lumped", "check", "migrate", "refine", "generate", "selftest"]
 # The options of all commands.
 ASKED = {*line.VERIFY.valued, *line.BOUNDED.valued, *line.PROPERTY.valued, *line.COST.valued, *line.LUMPED.valued}
 

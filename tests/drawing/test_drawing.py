@@ -1,13 +1,16 @@
 """Tests of what draws texts of `bounded`, `property` and `cost`: its pictures of reports have the bytes of plift-view,
 and its answers to texts for a number of steps, of properties and of costs are those that were worked out by hand."""
 
+import hashlib
+import json
 import os
 import subprocess
 import sys
 import tempfile
 import unittest
 from pathlib import Path
-from typing import List, NamedTuple
+from typing import Any, Dict, List, NamedTuple, Tuple
+from unittest import mock
 
 sys.dont_write_bytecode = True
 TOP = Path(__file__).resolve().parents[2]
@@ -15,6 +18,8 @@ sys.path.insert(0, str(TOP / "tools"))
 import draw as script  # noqa: E402
 
 VIEW = TOP / "build" / "quick" / "plift-view"
+SHOWN: List[List[str]] = [[], ["--summary"], ["--x", "none"]]
+Refusals = List[Tuple[List[str], Any, int, str]]  # words, a text, a status and a note
 PLIFT = TOP / "build" / "quick" / "plift"
 
 # A coin that is thrown again in half of the cases, and shows heads with p: within two steps 3p/4.
@@ -111,7 +116,7 @@ class Steps(unittest.TestCase):
         )
 
     def test_refusals(self) -> None:
-        table = [
+        table: Refusals = [
             (
                 [],
                 text(ONE.replace("x 2 4", "x 2 3")),
@@ -234,7 +239,7 @@ class Costs(unittest.TestCase):
         )
 
     def test_refusals(self) -> None:
-        table = [
+        table: Refusals = [
             (
                 [],
                 AFFORDABLE.replace("cost 1/1", "cost 3/2"),
@@ -257,7 +262,7 @@ class Door(unittest.TestCase):
         with tempfile.TemporaryFile() as file:
             file.write(given)
             file.seek(0)
-            how = {"stdin": file} if by_file else {"input": given}
+            how: Dict[str, Any] = {"stdin": file} if by_file else {"input": given}
             done = subprocess.run(door, capture_output=True, env={**os.environ, "PLIFT_HINTS": "0"}, **how)
         return Answer(done.returncode, done.stdout.decode(), done.stderr.decode())
 
@@ -266,7 +271,7 @@ class Door(unittest.TestCase):
             self.skipTest("the quick program isn't built")
         report = (TOP / "examples" / "retry-tree.report").read_bytes()
         for by_file in (True, False):
-            for words in ([], ["--summary"], ["--x", "none"]):
+            for words in SHOWN:
                 with self.subTest(words=words, by_file=by_file):
                     self.assertEqual(self.ask_door(words, text(HALVES), by_file), draw(words, text(HALVES)))
                     self.assertEqual(self.ask_door(words, text(PROPERTY), by_file), draw(words, text(PROPERTY)))
@@ -284,10 +289,122 @@ class Door(unittest.TestCase):
             self.assertEqual(self.ask_door([], b"", by_file), Answer(1, "", "not sound: line 1: Truncated\n"))
 
 
+class Rescaled(unittest.TestCase):
+    """A text or a report whose parameters run from 0 to 1 is shown in the numbers that the file beside it tells."""
+
+    def setUp(self) -> None:
+        folder = tempfile.TemporaryDirectory()
+        self.addCleanup(folder.cleanup)
+        self.path = Path(folder.name, "a text")
+
+    def told(self, given: bytes, **more: Any) -> Path:
+        """Writes a text, and beside it what plift-lab would."""
+        self.path.write_bytes(given)
+        told = {"goal": "lost", "scale": {"p": ["1/10", "1/2"]}, "sha256": hashlib.sha256(given).hexdigest(), **more}
+        beside = Path(f"{self.path}.json")
+        lines = ",\n".join(f"{json.dumps(name)}: {json.dumps(value)}" for name, value in told.items())
+        beside.write_text("{\n" + lines + "\n}\n")
+        return beside
+
+    def show(self, words: List[str], given: bytes, **more: Any) -> Answer:
+        """What the script answers, when the text stands beside such a file."""
+        beside = self.told(given, **more)
+        with mock.patch("line.tell") as tell:
+            try:
+                shown = script.answer(words, given, beside)
+            except script.Refused as refusal:
+                return Answer(refusal.status, "", f"{refusal}\n")
+        return Answer(0, shown, "".join(call.args[0] for call in tell.call_args_list))
+
+    def show_by_door(self, words: List[str], given: bytes, **more: Any) -> Answer:
+        """What plift-view answers of the same."""
+        self.told(given, **more)
+        with open(self.path, "rb") as source:
+            door = [str(TOP / "plift-view"), "--quick", *words]
+            environment = {**os.environ, "PLIFT_HINTS": "0"}
+            done = subprocess.run(door, capture_output=True, stdin=source, env=environment)
+        return Answer(done.returncode, done.stdout.decode(), done.stderr.decode())
+
+    def test_a_text(self) -> None:
+        plain = draw([], text(PROPERTY)).out
+        self.assertIn("from 0 to 1<", plain)
+        answer = self.show([], text(PROPERTY))
+        self.assertEqual((answer.status, answer.note), (0, ""))
+        self.assertEqual(field_of(answer.out), field_of(plain))
+        for line in (
+            ">P( reach lost ) below 3/4, numbers over 2^3, depth 2</text>",
+            "states: 3; parameters from 0 to 1 in the report, here in your own numbers</text>",
+            ">from 1/10 to 1/2</text>",
+            '<text x="270" y="20">0.200</text>',
+        ):
+            self.assertIn(line, answer.out)
+        lines = self.show(["--summary"], text(PROPERTY)).out.splitlines()
+        self.assertEqual(lines[4], "greatest fails depth 2 p 1/10 1/5")
+
+    def test_a_value_is_the_users(self) -> None:
+        given = text(PROPERTY.replace("parameters 1 p", "parameters 2 p q").replace("box 0 4", "box 0 4 0 4"))
+        words = ["--x", "q", "--y", "p"]
+        self.assertIn(">from 0 to 1</text>", self.show(words, given).out)
+        answer = self.show(["--x", "q", "--at", "p=1/4"], given, scale={"p": ["1/5", "3/5"], "q": ["1/9", "2/9"]})
+        self.assertEqual(answer.status, 2, "an axis is chosen, and it is p")
+        answer = self.show(["--x", "p", "--at", "q=1/6"], given, scale={"p": ["1/5", "3/5"], "q": ["1/9", "2/9"]})
+        self.assertIn("q = 1/6</text>", answer.out)
+        answer = self.show(["--x", "p", "--at", "q=1/4"], given, scale={"p": ["1/5", "3/5"], "q": ["1/9", "2/9"]})
+        self.assertEqual(answer.note, "usage: --at 1 Outside\n")
+
+    def test_labels(self) -> None:
+        answer = self.show([], text(PROPERTY), goal='a<b & "c"\x1b\u00fc')
+        self.assertIn(">P( reach a&lt;b &amp; &quot;c&quot;\\u{1b}\\u{fc} ) below 3/4", answer.out)
+        self.assertIn(f"reach {'a' * 60}.. )", self.show([], text(PROPERTY), goal="a" * 999).out)
+
+    def test_what_the_region_does_not_bear_out(self) -> None:
+        answer = self.show_by_door([], text(HALVES))
+        end = "without it the report is shown by itself\n"
+        self.assertEqual(
+            answer, Answer(2, "", f"a text.json tells of p what the report's region doesn't bear out: {end}")
+        )
+        self.assertIn("tells of q what", self.show([], text(PROPERTY), scale={"q": ["0", "2"]}).note)
+        wrong: List[Dict[str, Any]] = [
+            {"scale": {"p": ["1/2", "1/2"]}},
+            {"scale": {"p": ["0", "1/0"]}},
+            {"scale": {"p": [0, 1]}},
+            {"scale": {"p": ["0"]}},
+            {"scale": []},
+            {"scale": None},
+            {"sha256": [1]},
+        ]
+        for more in wrong:
+            answer = self.show([], text(PROPERTY), **more)
+            if "sha256" in more:
+                self.assertIn("is of another report", answer.note)
+            else:
+                self.assertEqual(answer.note, f"a text.json isn't in the form that plift-lab writes: {end}", more)
+
+    def test_of_another_report(self) -> None:
+        answer = self.show([], text(PROPERTY), sha256="0" * 64)
+        self.assertEqual(answer.note, "plift-view: a text.json is of another report, and isn't read\n")
+        self.assertEqual(answer.out, draw([], text(PROPERTY)).out)
+
+    def test_a_report(self) -> None:
+        if not os.access(VIEW, os.X_OK):
+            self.skipTest("the quick program isn't built")
+        line = [str(PLIFT), "verify", "--goal", "heads", "--bound", "1/2", "--region", "0<=p<=1", "--depth", "4"]
+        done = subprocess.run(line, input=(TOP / "examples/coin.drn").read_bytes(), capture_output=True, check=True)
+        plain = ask([str(VIEW)], [], done.stdout).out
+        self.assertIn(">from 0 to 1</text>", plain)
+        answer = self.show_by_door([], done.stdout, scale={"p": ["1/5", "3/5"]})
+        self.assertEqual(answer, self.show([], done.stdout, scale={"p": ["1/5", "3/5"]}))
+        self.assertEqual((field_of(answer.out), answer.note), (field_of(plain), ""))
+        self.assertIn(">from 1/5 to 3/5</text>", answer.out)
+        self.assertIn("P( reach lost ) at most 1/2", answer.out)
+        # What isn't rescaled is the program's to show.
+        self.assertEqual(self.show_by_door([], done.stdout, scale={}).out, plain)
+
+
 class Reports(unittest.TestCase):
     """Of reports the script's answers are those of plift-view, byte for byte."""
 
-    WORDS = [
+    WORDS: List[List[str]] = [
         [],
         ["--summary"],
         ["--x", "q"],

@@ -13,6 +13,7 @@ TOP = Path(__file__).resolve().parent.parent.parent
 sys.path.insert(0, str(TOP / "tools"))
 
 import hints  # noqa: E402
+from hints.refusal import Refusal  # noqa: E402
 
 
 def example(name: str) -> bytes:
@@ -58,7 +59,7 @@ def words(line: str, *told: str) -> Mistake:
 @lru_cache(maxsize=None)
 def told_of(mistake: Mistake) -> List[str]:
     """The hints for a mistake, as they are made."""
-    return hints.explained(hints.Refusal(mistake.status, mistake.note, mistake.split(), mistake.text, mistake.program))
+    return hints.explained(Refusal(mistake.status, mistake.note, mistake.split(), mistake.text, mistake.program))
 
 
 def program(name: str = "plift") -> Optional[str]:

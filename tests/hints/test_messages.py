@@ -1,4 +1,5 @@
-"""Each note that the sources can write stands in docs/MESSAGES.md with its meaning and a remedy, and has a hint."""
+"""Each note that the sources can write stands in tools/words/notes.tsv, of which docs/MESSAGES.md is made, with its
+meaning and a remedy, and has a hint."""
 
 from __future__ import annotations
 
@@ -14,8 +15,9 @@ sys.path.insert(0, str(TOP / "tools"))
 
 import hints  # noqa: E402
 from hints import model  # noqa: E402
-from hints.advice import PAGE, advice_on, rows_of  # noqa: E402
+from hints.advice import advice_on, rows  # noqa: E402
 
+PAGE = (TOP / "docs" / "MESSAGES.md").read_text(encoding="utf-8")
 UNTOLD = {"Memory"}  # told as `out of memory`
 UNREACHED = {"not read"}  # kept for faults that have statuses of their own
 
@@ -66,10 +68,15 @@ def written(text: str) -> List[str]:
     return notes
 
 
-ROW_FAULTS = written(re.search(r"fn write_row_fault.*?\n}\n", source("check_notes/src/rows.rt"), re.S)[0]) + [
-    "too wide"
-]
-MISSES = written(re.search(r"fn write_miss.*?\n}\n", source("check_notes/src/unsound.rt"), re.S)[0])
+def body(name: str, file: str) -> str:
+    """The text of a function."""
+    found = re.search(rf"fn {name}.*?\n}}\n", source(f"check_notes/src/{file}"), re.S)
+    assert found
+    return found[0]
+
+
+ROW_FAULTS = [*written(body("write_row_fault", "rows.rt")), "too wide"]
+MISSES = written(body("write_miss", "unsound.rt"))
 NODE_FAULTS = re.findall(r'write_node_fault\(notes, node, b" (\w+)"\)', source("check_notes/src/unsound.rt"))
 
 
@@ -164,15 +171,15 @@ class Messages(unittest.TestCase):
     def test_no_other_rows(self) -> None:
         """Each note of the page is one that a program writes."""
         notes = {(section, without_front(section, note)) for section, _, note, _ in all_notes()}
-        for section, rows in rows_of(PAGE.read_text(encoding="utf-8")).items():
-            for row in rows:
+        for section, told_rows in rows().items():
+            for row in told_rows:
                 for told in row.notes:
                     with self.subTest(section=section, note=told):
                         self.assertTrue(any(s == section and hints.advice.matches(told, rest) for s, rest in notes))
 
     def test_order(self) -> None:
         """The page's sections stand in the order of the statuses."""
-        statuses = [int(s) for s in re.findall(r"^## Status (\d+)", PAGE.read_text(encoding="utf-8"), re.M)]
+        statuses = [int(s) for s in re.findall(r"^## Status (\d+)", PAGE, re.M)]
         self.assertEqual(statuses, sorted(statuses))
         self.assertEqual(set(statuses), set(range(9)))
 

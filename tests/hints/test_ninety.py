@@ -11,7 +11,7 @@ import subprocess
 import sys
 import unittest
 from pathlib import Path
-from typing import Callable
+from typing import Any, Callable, Dict, List, Tuple
 
 sys.dont_write_bytecode = True
 sys.path[:0] = [str(Path(__file__).resolve().parent), str(Path(__file__).resolve().parent.parent.parent / "tools")]
@@ -72,7 +72,7 @@ class Mistakes(unittest.TestCase):
         reader, writer = os.pipe()
         os.close(reader)
         with open("/dev/full", "wb") as full, open("/dev/null", "rb") as nothing:
-            runs = [
+            runs: List[Tuple[List[str], Dict[str, Any], int, str]] = [
                 (["check"], {"stdin": folder}, 5, "read fault"),
                 (["check"], {"preexec_fn": lambda: os.close(0)}, 5, "read fault"),
                 (["generate", "3"], {"stdin": nothing, "stdout": full}, 6, "write fault"),

@@ -12,7 +12,7 @@ import sys
 import tempfile
 import unittest
 from pathlib import Path
-from typing import Any, List, Optional, Union
+from typing import Any, List, Union
 
 sys.dont_write_bytecode = True
 TOP = Path(__file__).resolve().parent.parent.parent
@@ -20,11 +20,13 @@ PROGRAM = TOP / "tools" / "hints.py"
 sys.path[:0] = [str(Path(__file__).resolve().parent), str(TOP / "tools")]
 
 import hints  # noqa: E402
+from hints.refusal import Refusal  # noqa: E402
 from hints.told import printable  # noqa: E402
 from table import PLAIN, REPORT, RETRY  # noqa: E402
 from test_messages import all_notes  # noqa: E402
 
 SPEC = importlib.util.spec_from_file_location("started", PROGRAM)
+assert SPEC and SPEC.loader
 STARTED = importlib.util.module_from_spec(SPEC)
 SPEC.loader.exec_module(STARTED)
 
@@ -43,9 +45,9 @@ def processor_seconds() -> float:
 class Ended:
     """How a run ended, and what it wrote."""
 
-    def __init__(self, arguments: List, note: Union[str, bytes, None], **streams: Any):
-        environment = {key: value for key, value in os.environ.items() if not key.startswith("PLIFT_")}
-        environment = {os.fsencode(k): os.fsencode(v) for k, v in environment.items()}
+    def __init__(self, arguments: List[Any], note: Union[str, bytes, None], **streams: Any):
+        kept = {key: value for key, value in os.environ.items() if not key.startswith("PLIFT_")}
+        environment = {os.fsencode(k): os.fsencode(v) for k, v in kept.items()}
         if note is not None:
             environment[b"PLIFT_NOTE"] = note if isinstance(note, bytes) else note.encode()
         for name, value in streams.pop("more", {}).items():
@@ -55,11 +57,12 @@ class Ended:
         ran = subprocess.run(
             command, env=environment, stdout=subprocess.PIPE, stderr=subprocess.PIPE, timeout=60, **streams
         )
-        self.status, self.out, self.lines = ran.returncode, ran.stdout, ran.stderr.decode("utf-8").splitlines()
+        self.status, self.out = ran.returncode, ran.stdout
+        self.lines: List[str] = ran.stderr.decode("utf-8").splitlines()
 
 
 class Program(unittest.TestCase):
-    def ended(self, arguments: List, note: Optional[str] = UNKNOWN, **streams: Any) -> List[str]:
+    def ended(self, arguments: List[Any], note: Union[str, bytes, None] = UNKNOWN, **streams: Any) -> List[str]:
         """The lines of a run, which ends well and says nothing else."""
         run = Ended(arguments, note, **streams)
         self.assertEqual((run.status, run.out), (0, b""))
@@ -68,7 +71,9 @@ class Program(unittest.TestCase):
             self.assertTrue(line.startswith("hint: ") and line.isprintable(), line)
         return run.lines
 
-    def with_text(self, text: bytes, arguments: List, note: Optional[str] = UNKNOWN, **streams: Any) -> List[str]:
+    def with_text(
+        self, text: bytes, arguments: List[Any], note: Union[str, bytes, None] = UNKNOWN, **streams: Any
+    ) -> List[str]:
         """The lines where standard input is a file with this text."""
         with tempfile.TemporaryFile() as file:
             file.write(text)
@@ -86,16 +91,15 @@ class Program(unittest.TestCase):
             self.assertEqual(file.tell(), 7)
 
     def test_installed(self) -> None:
-        """Where they are installed, hints find the page among the documents; without it they tell what they find."""
+        """Where they are installed, hints find the notes beside them; without these they tell what they find."""
         with tempfile.TemporaryDirectory() as prefix:
-            tools, docs = Path(prefix, "libexec", "plift", "tools"), Path(prefix, "share", "doc", "plift", "docs")
+            tools = Path(prefix, "libexec", "plift", "tools")
             shutil.copytree(TOP / "tools" / "hints", tools / "hints", ignore=shutil.ignore_patterns("__pycache__"))
             shutil.copy(PROGRAM, tools)
             self.assertEqual(self.ended(["3", "--"] + LABEL, program=tools / "hints.py"), [])
             found = self.with_text(RETRY, ["3", "--"] + LABEL, program=tools / "hints.py")
             self.assertIn("is lost meant?", found[0])
-            docs.mkdir(parents=True)
-            shutil.copy(TOP / "docs" / "MESSAGES.md", docs)
+            shutil.copytree(TOP / "tools" / "words", tools / "words")
             self.assertIn("No state has the label", self.ended(["3", "--"] + LABEL, program=tools / "hints.py")[0])
 
     def test_no_text(self) -> None:
@@ -145,10 +149,14 @@ class Program(unittest.TestCase):
     def test_closed(self) -> None:
         """A closed standard error, or no stream at all, changes nothing."""
         for streams in ((2,), (0, 1, 2)):
+
+            def close() -> None:
+                """Before the program begins."""
+                for stream in streams:
+                    os.close(stream)
+
             command = [sys.executable, "-B", str(PROGRAM), "3", "--"] + LABEL
-            ran = subprocess.run(
-                command, env={**os.environ, "PLIFT_NOTE": UNKNOWN}, preexec_fn=lambda: [os.close(s) for s in streams]
-            )
+            ran = subprocess.run(command, env={**os.environ, "PLIFT_NOTE": UNKNOWN}, preexec_fn=close)
             self.assertEqual(ran.returncode, 0)
 
     def test_arguments(self) -> None:
@@ -177,7 +185,7 @@ class Program(unittest.TestCase):
             "model: line x: Syntax",
         ):
             for status in range(9):
-                hints.explained(hints.Refusal(status, note, ["verify"], RETRY))
+                hints.explained(Refusal(status, note, ["verify"], RETRY))
 
     def test_not_utf8(self) -> None:
         """Bytes that aren't UTF-8, in the words, the note and the text."""
@@ -243,7 +251,7 @@ class Program(unittest.TestCase):
             )
             note = chance.choice(notes).replace("7", str(chance.randrange(40)))
             program = chance.choice(["plift", "plift-view"])
-            refusal = hints.Refusal(chance.randrange(9), hints.note_in(note), changed, bytes(text), program)
+            refusal = Refusal(chance.randrange(9), hints.note_in(note), changed, bytes(text), program)
             for line in hints.finished(hints.explained(refusal)):
                 self.assertEqual(line, printable(line), (note, changed))
 

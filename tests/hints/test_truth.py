@@ -75,8 +75,9 @@ def region(given: Given, match: "re.Match[str]", _: Mistake) -> Given:
 
 def joined(given: Given, match: "re.Match[str]", mistake: Mistake) -> Given:
     """One transition in the place of two: that at the note's line goes."""
-    first = int(re.search(r"stands at line (\d+) already", "\n".join(told_of(mistake)))[1])
-    return with_line(with_line(given, first, match[1]), number_of_line(mistake), None)
+    told = re.search(r"stands at line (\d+) already", "\n".join(told_of(mistake)))
+    assert told
+    return with_line(with_line(given, int(told[1]), match[1]), number_of_line(mistake), None)
 
 
 def behind(given: Given, match: "re.Match[str]", mistake: Mistake) -> Given:
@@ -181,7 +182,8 @@ class Truth(unittest.TestCase):
         taken = 0
         for mistakes in TABLES.values():
             for mistake in mistakes:
-                for line in told_of(mistake) if programs[mistake.program] else []:
+                path = programs[mistake.program]
+                for line in told_of(mistake) if path else []:
                     for form, take in PROPOSALS:
                         match = re.search(form, line)
                         if match and not line.endswith(OTHERS):
@@ -189,7 +191,7 @@ class Truth(unittest.TestCase):
                             with self.subTest(words=named(mistake), note=mistake.note, hint=line):
                                 given = take(Given(mistake.split(), mistake.text or b""), match, mistake)
                                 self.assertNotEqual(given, Given(mistake.split(), mistake.text or b""))
-                                self.assertNotEqual(self.note_on(programs[mistake.program], given), mistake.note)
+                                self.assertNotEqual(self.note_on(path or "", given), mistake.note)
         self.assertGreaterEqual(taken, LEAST)
 
 

@@ -17,6 +17,12 @@ TOP = Path(__file__).resolve().parents[2]
 sys.path[:0] = [str(Path(__file__).resolve().parent), str(TOP / "recheck")]
 import recheck  # noqa: E402
 
+try:
+    import hypothesis
+    from hypothesis import HealthCheck, strategies
+except ImportError:
+    hypothesis = None  # type: ignore[assignment]
+
 PROGRAM = os.environ.get("PLIFT_PROGRAM") or str(TOP / "build" / "quick" / "plift")
 COUNT: Optional[int] = None  # of random questions, where it isn't the usual one
 SEED = 1
@@ -28,6 +34,11 @@ class Answer(NamedTuple):
     status: int
     out: bytes
     note: bytes
+
+
+def line_of(command: str, **options: str) -> List[str]:
+    """A command with its options, in this order."""
+    return [command, *(word for name, value in options.items() for word in (f"--{name}", value))]
 
 
 def has_program() -> bool:
@@ -62,11 +73,24 @@ def wrong_text(words: List[str], model: bytes, wanted: bytes, sound: str) -> str
 
 
 def each_question(test: unittest.TestCase, fault_of: Callable[[random.Random], str], usual: int) -> None:
-    """Asks so many random questions: nothing may be at fault with any."""
-    chance = random.Random(SEED)
-    for number in range(usual if COUNT is None else COUNT):
-        with test.subTest(number=number, seed=SEED):
-            test.assertEqual(fault_of(chance), "")
+    """Asks so many random questions: nothing may be at fault with any. With hypothesis one that goes wrong is made as
+    small as can be; without it they are asked in a plain loop."""
+    count = usual if COUNT is None else COUNT
+    if hypothesis is None:
+        chance = random.Random(SEED)
+        for number in range(count):
+            with test.subTest(number=number, seed=SEED):
+                test.assertEqual(fault_of(chance), "")
+        return
+
+    @hypothesis.seed(SEED)
+    @hypothesis.settings(max_examples=count, deadline=None, database=None, suppress_health_check=list(HealthCheck))
+    @hypothesis.given(strategies.randoms(use_true_random=False))
+    def holds(chance: random.Random) -> None:
+        """One question."""
+        test.assertEqual(fault_of(chance), "")
+
+    holds()
 
 
 def main(what: str) -> None:

@@ -43,9 +43,9 @@ def reached(process: Process, picks: Picks, at: Valuation, is_until: bool) -> Li
     count = len(process.states)
     left = {s for s in range(count) if s not in process.goals and not (is_until and s not in process.safe)}
     rows = {
-        s: [(target, value(poly, at)) for target, poly in process.states[s][picks[s]]]
-        for s in left
-        if picks[s] is not None
+        s: [(target, value(poly, at)) for target, poly in process.states[s][pick]]
+        for s, pick in enumerate(picks)
+        if s in left and pick is not None
     }
     sure = can_reach(process.goals, rows)
     open_states = sorted(s for s in left if s in sure)

@@ -6,7 +6,7 @@ import random
 from fractions import Fraction
 from itertools import product
 from math import lcm
-from typing import Dict, Iterator, List, NamedTuple, Sequence, Set, Tuple
+from typing import Any, Dict, Iterator, List, NamedTuple, Sequence, Set, Tuple
 
 Poly = Dict[int, Fraction]  # coefficients by the set of parameters, bit i for parameter i; each parameter at most once
 Row = List[Tuple[int, Poly]]  # targets with their probabilities
@@ -15,24 +15,25 @@ Box = List[Tuple[Fraction, Fraction]]
 
 NAMES = ("p", "q")
 P, Q, PQ = 1, 2, 3
+ZERO, ONE = Fraction(0), Fraction(1)
 # What a row's probabilities may be.
 ROWS: List[List[Poly]] = [
-    [{0: 1}],
-    [{P: 1}, {0: 1, P: -1}],
-    [{Q: 1}, {0: 1, Q: -1}],
+    [{0: ONE}],
+    [{P: ONE}, {0: ONE, P: -ONE}],
+    [{Q: ONE}, {0: ONE, Q: -ONE}],
     [{0: Fraction(1, 3)}, {0: Fraction(2, 3)}],
     [{0: Fraction(1, 2)}, {P: Fraction(1, 2)}, {0: Fraction(1, 2), P: Fraction(-1, 2)}],
-    [{P: Fraction(1, 2)}, {Q: Fraction(1, 2)}, {0: 1, P: Fraction(-1, 2), Q: Fraction(-1, 2)}],
-    [{PQ: 1}, {P: 1, PQ: -1}, {0: 1, P: -1}],
-    [{0: 1}, {}],
+    [{P: Fraction(1, 2)}, {Q: Fraction(1, 2)}, {0: ONE, P: Fraction(-1, 2), Q: Fraction(-1, 2)}],
+    [{PQ: ONE}, {P: ONE, PQ: -ONE}, {0: ONE, P: -ONE}],
+    [{0: ONE}, {}],
     [{0: Fraction(1, 8), Q: Fraction(1, 4)}, {0: Fraction(7, 8), Q: Fraction(-1, 4)}],
 ]
 SPANS = [
-    (0, 1),
-    (0, Fraction(1, 2)),
+    (ZERO, ONE),
+    (ZERO, Fraction(1, 2)),
     (Fraction(1, 10), Fraction(2, 5)),
     (Fraction(49, 100), Fraction(51, 100)),
-    (Fraction(2, 3), 1),
+    (Fraction(2, 3), ONE),
     (Fraction(1, 100), Fraction(9, 10)),
     (Fraction(3, 5), Fraction(3, 4)),
 ]
@@ -169,6 +170,11 @@ def random_process(chance: random.Random) -> Process:
     goals = set(chance.sample(range(count), chance.choice([1, 1, 1, min(2, count)])))
     safe = {s for s in range(count) if chance.random() < 0.7} or {0}
     return Process(is_chain, parameters, goals, safe, chance.randrange(count), states)
+
+
+def some_of(chance: random.Random, all_of: List[Any], most: int) -> List[Any]:
+    """At most so many of these, each once."""
+    return chance.sample(all_of, min(len(all_of), most)) if all_of else []
 
 
 def random_question(chance: random.Random, process: Process) -> Question:

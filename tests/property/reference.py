@@ -6,7 +6,7 @@ from __future__ import annotations
 from fractions import Fraction
 from itertools import product
 from math import lcm
-from typing import Callable, Dict, Iterable, List, NamedTuple, Optional, Tuple, Union
+from typing import Any, Callable, Dict, Iterable, List, NamedTuple, Optional, Sequence, Tuple, Union
 
 from processes import NAMES, Box, Process, Question, Row, value
 
@@ -36,7 +36,7 @@ class Leaf(NamedTuple):
 
     kind: str
     box: Box
-    certificate: Union[Upper, Lower, None]
+    certificate: Any  # none, or what the command has: here an Upper or a Lower
 
 
 class Split(NamedTuple):
@@ -106,13 +106,15 @@ class Rectangle:
         """At each corner the probability of the targets whose rank is below a stage."""
         sums = []
         for weights, whole in corners:
-            ranked = (weight for target, weight in weights if ranks[target] is not None and ranks[target] < stage)
+            ranked = (
+                weight for target, weight in weights if (ranks[target] or 0) < stage and ranks[target] is not None
+            )
             sums.append(Fraction(sum(ranked), whole))
         return sums
 
     def rate(self, chosen: List[Tuple[int, List[Corner]]], ranks: Ranks) -> int:
         """The least e so that in each row the probability of lower ranks is at least 1/2^e."""
-        least = min([Fraction(1), *(min(self.below(corners, ranks, ranks[s])) for s, corners in chosen)])
+        least = min([Fraction(1), *(min(self.below(corners, ranks, ranks[s] or 0)) for s, corners in chosen)])
         return next(e for e in range(1000) if least * 2**e >= 1)
 
     def greatest_lower_all(self) -> Lower:
@@ -135,7 +137,7 @@ class Rectangle:
                 number = min(min(mean // 1 for mean in self.means(corners, numbers)) for corners in self.rows[s])
                 changed, numbers[s] = changed or number != numbers[s], number
         e = self.rate([(s, corners) for s in ranked for corners in self.rows[s]], ranks)
-        return Lower(numbers, None, ranks, e, max([1, *(ranks[s] for s in ranked)]))
+        return Lower(numbers, None, ranks, e, max([1, *(ranks[s] or 0 for s in ranked)]))
 
     def stages(self, numbers: List[int]) -> Tuple[Ranks, List[Optional[int]]]:
         """The stages of states that have a choice whose means aren't below their number, and that leads into those
@@ -173,8 +175,8 @@ class Rectangle:
                 break
             for s in self.others:
                 numbers[s] -= ranks[s] is None and numbers[s] == highest
-        chosen = [(s, self.rows[s][picks[s]]) for s in self.others if picks[s] is not None]
-        return Lower(numbers, picks, ranks, self.rate(chosen, ranks), max([1, *(ranks[s] for s, _ in chosen)]))
+        chosen = [(s, self.rows[s][pick]) for s, pick in enumerate(picks) if pick is not None]
+        return Lower(numbers, picks, ranks, self.rate(chosen, ranks), max([1, *(ranks[s] or 0 for s, _ in chosen)]))
 
 
 def verdict(process: Process, question: Question, box: Box) -> Leaf:
@@ -183,7 +185,7 @@ def verdict(process: Process, question: Question, box: Box) -> Leaf:
     is_most = op in ("<=", "<")
     upper = rectangle.least_upper() if is_most else rectangle.least_upper_one()
     lower = rectangle.greatest_lower() if is_most else rectangle.greatest_lower_all()
-    high, low = (Fraction(it.numbers[process.init], rectangle.top) for it in (upper, lower))
+    high, low = (Fraction(numbers[process.init], rectangle.top) for numbers in (upper.numbers, lower.numbers))
     is_low = high <= question.bound if op in ("<=", ">") else high < question.bound
     is_high = low > question.bound if op in ("<=", ">") else low >= question.bound
     assert not (is_low and is_high)
@@ -221,7 +223,7 @@ def leaves_of(tree: Union[Split, Leaf]) -> List[Leaf]:
     return [tree] if isinstance(tree, Leaf) else [leaf for half in tree.halves for leaf in leaves_of(half)]
 
 
-def words(key: str, marks: List[Optional[int]]) -> str:
+def words(key: str, marks: Sequence[Optional[int]]) -> str:
     """A line with a word for each state."""
     return " ".join([key, *("-" if mark is None else str(mark) for mark in marks)])
 

@@ -15,12 +15,12 @@ from __future__ import annotations
 import random
 import unittest
 from fractions import Fraction
-from typing import List, Optional
+from typing import List, Optional, Set, Tuple
 
 import asking
 from asking import wrong_text
 from exact import extremes, reached
-from processes import Process, Question, model_text, random_process, random_question, samples
+from processes import Process, Question, model_text, random_process, random_question, samples, some_of
 from reference import Leaf, Upper, answer, leaves_of
 
 COUNT = 120
@@ -80,7 +80,7 @@ def fault_of(chance: random.Random) -> str:
     if wrong:
         return wrong
     decided = [leaf for leaf in leaves if leaf.certificate]
-    for leaf in chance.sample(decided, min(len(decided), MOST_LEAVES)):
+    for leaf in some_of(chance, decided, MOST_LEAVES):
         for at in samples(chance, leaf.box):
             lie = lie_of(process, question, leaf, at)
             if lie:
@@ -96,7 +96,8 @@ class Properties(unittest.TestCase):
 
     def test_lies_are_seen(self) -> None:
         """The other verdict, and numbers that bound nothing, are told of."""
-        chance, seen = random.Random(asking.SEED), set()
+        chance = random.Random(asking.SEED)
+        seen: Set[Tuple[type, bool]] = set()
         while len(seen) < 4:
             process, question = question_of(chance)
             for leaf in leaves_of(answer(process, question)[1]):

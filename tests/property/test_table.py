@@ -3,7 +3,7 @@
 import re
 import unittest
 
-from asking import TOP, Answer, ask, checked, has_program
+from asking import Answer, TOP, ask, checked, has_program, line_of
 
 COIN = (TOP / "examples" / "coin.drn").read_bytes()
 # Either of two choices shows heads with p, or with the rest.
@@ -175,17 +175,7 @@ class Table(unittest.TestCase):
     def test_nodes(self) -> None:
         for model, formula, region, depth, precision, nodes in NODES:
             with self.subTest(formula=formula, region=region):
-                words = [
-                    "property",
-                    "--formula",
-                    formula,
-                    "--region",
-                    region,
-                    "--depth",
-                    depth,
-                    "--precision",
-                    precision,
-                ]
+                words = line_of("property", formula=formula, region=region, depth=depth, precision=precision)
                 answer = ask(words, model)
                 self.assertEqual((answer.status, answer.note), (0, b""))
                 self.assertEqual(answer.out.decode().split("\nbox ")[1].splitlines()[1:], nodes.split(";"))

@@ -66,10 +66,11 @@ class Case:
 class StoredRun(Case):
     """A stored run, whose notes are known by their form alone."""
 
-    notes: re.Pattern = re.compile(b"")
+    notes: re.Pattern[bytes] = re.compile(b"")
 
     def is_met(self, got: Answer) -> bool:
         is_noted = self.notes.fullmatch(got.notes) is not None
+        assert self.want is not None
         return is_noted and (got.status, got.output) == (self.want.status, self.want.output)
 
 

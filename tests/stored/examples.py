@@ -10,7 +10,8 @@ from tables import TOP
 SHAPES = [("1/2", "0", "24"), ("1/4", "3", "10"), ("1/50", "5", "7"), ("0", "1", "40")]
 OPS = ["<=", "<", ">=", ">"]
 BUDGETS = [("7/5", "3", "0", "24"), ("13/10", "4", "4", "10"), ("0", "1", "0", "40")]
-VIEWS = [[], ["--summary"], ["--follow"], ["--x", "p"], ["--at", "q=1/8"]]
+REPORTED = [["check"], ["migrate"], ["refine", "--depth", "3"], ["refine", "--depth=7"]]
+VIEWS: list[list[str]] = [[], ["--summary"], ["--follow"], ["--x", "p"], ["--at", "q=1/8"]]
 
 
 def parameters(text: str) -> list[str]:
@@ -60,7 +61,7 @@ def models() -> Iterator[Case]:
 
 def reports() -> Iterator[Case]:
     for path in sorted((TOP / "examples").glob("*.report")):
-        for command in (["check"], ["migrate"], ["refine", "--depth", "3"], ["refine", "--depth=7"]):
+        for command in REPORTED:
             yield Case(f"{path.name}: {' '.join(command)}", "plift", command, path.read_bytes())
         for words in VIEWS:
             yield Case(f"{path.name}: {' '.join(words)}", "plift-view", words, path.read_bytes())

@@ -2,7 +2,8 @@
 
 import os
 import subprocess
-from collections.abc import Iterator
+from collections.abc import Iterator, Sequence
+from typing import Any
 
 from cases import Answer
 from tables import TOP
@@ -28,7 +29,7 @@ verify | </dev/null 2>/dev/full | 2 |
 """
 
 
-def answer_of(command: list[str | bytes], **streams: int) -> Answer:
+def answer_of(command: Sequence[str | bytes], **streams: Any) -> Answer:
     done = subprocess.run(command, stderr=subprocess.PIPE, timeout=60, cwd=TOP, **streams)
     return Answer(done.returncode, done.stdout or b"", done.stderr)
 

@@ -13,7 +13,7 @@ SINGLE = {"n": "\n", "r": "\r", "t": "\t", "\\": "\\", '"': '"'}
 def unescaped(literal: str) -> str:
     """The text that a literal of the source stands for."""
 
-    def meant(escape: re.Match) -> str:
+    def meant(escape: re.Match[str]) -> str:
         if escape[1]:
             return chr(int(escape[1], 16))
         return SINGLE[escape[2]] if escape[2] else ""

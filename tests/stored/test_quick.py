@@ -52,7 +52,7 @@ class Quick(unittest.TestCase):
             (self.tools / name).write_text(script.format(build=build, version=version))
             (self.tools / name).chmod(0o755)
 
-    def start(self, *words: str) -> subprocess.Popen:
+    def start(self, *words: str) -> subprocess.Popen[str]:
         command = [sys.executable, str(self.top / "tools" / "quick.py"), *words]
         return subprocess.Popen(
             command, env=self.environment, stdout=subprocess.PIPE, stderr=subprocess.PIPE, text=True
@@ -112,6 +112,7 @@ class Quick(unittest.TestCase):
         first = self.start()
         self.wait_for_build()
         second = self.start()
+        assert second.stderr
         self.assertIn("waiting for it", second.stderr.readline())
         Path(f"{self.builds}.go").touch()
         output, _ = second.communicate(timeout=SECONDS)

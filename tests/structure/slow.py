@@ -102,9 +102,11 @@ def steps_from_above(rectangle: Rectangle, steps: int) -> Vectors:
 
 def steps_from_below(rectangle: Rectangle, steps: int) -> Vectors:
     """The greatest numbers that are at most the means of some choice, and the first such choice."""
-    vectors, picks = [rectangle.from_goals()], []
+    vectors = [rectangle.from_goals()]
+    picks: List[List[Optional[int]]] = []
     for _ in range(steps):
-        numbers, marks = list(vectors[0]), [None] * rectangle.count
+        numbers = list(vectors[0])
+        marks: List[Optional[int]] = [None] * rectangle.count
         for s in rectangle.others:
             least = [min(mean // 1 for mean in rectangle.means(corners, vectors[-1])) for corners in rectangle.rows[s]]
             numbers[s], marks[s] = max(least), least.index(max(least))

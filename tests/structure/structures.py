@@ -14,6 +14,8 @@ sys.path[:0] = [str(Path(__file__).resolve().parents[1] / folder) for folder in 
 
 from processes import ROWS, SPANS, Box, Process, Row, region_words  # noqa: E402
 
+__all__ = ["Box", "Process"]
+
 
 class Asked(NamedTuple):
     """What is asked of a process: a bound, a region, a depth, a precision, and the least one of a range."""

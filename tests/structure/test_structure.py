@@ -3,8 +3,7 @@
 
     tests/structure/test_structure.py [--count N] [--seed S] [--program PATH]
 
-Models have copied states, sinks, rings and dead ends (structures.py). With hypothesis each question that goes wrong is
-made as small as can be; without it the same questions are asked in a plain loop.
+Models have copied states, sinks, rings and dead ends (structures.py).
 """
 
 from __future__ import annotations
@@ -26,12 +25,6 @@ import slow
 from asking import Answer, checked
 from priced import priced_text, random_asked
 from processes import model_text, random_question
-
-try:
-    import hypothesis
-    from hypothesis import strategies
-except ImportError:
-    hypothesis = None
 
 COUNT = 25  # of questions to each command
 SECONDS = 10  # that an answer may take
@@ -156,21 +149,7 @@ class Commands(unittest.TestCase):
 
     def holds(self, fault_of: Fault) -> None:
         """Nothing is at fault with any question."""
-        count = COUNT if asking.COUNT is None else asking.COUNT
-        if hypothesis is None:
-            chance = random.Random(asking.SEED)
-            for number in range(count):
-                with self.subTest(number=number, seed=asking.SEED):
-                    self.assertEqual(fault_of(chance), "")
-            return
-
-        @hypothesis.settings(max_examples=count, deadline=None, database=None, derandomize=True)
-        @hypothesis.given(strategies.randoms(use_true_random=False))
-        def holds(chance: random.Random) -> None:
-            """One question."""
-            self.assertEqual(fault_of(chance), "")
-
-        holds()
+        asking.each_question(self, fault_of, COUNT)
 
     def test_verify(self) -> None:
         """`verify`, with a range of precisions and without."""

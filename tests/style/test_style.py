@@ -1,5 +1,5 @@
-"""All Python is laid out by black and passes flake8; what is in STRICT passes mypy in its strict form. Where one of
-these isn't installed, its test is left out and says so: a user needs none of them."""
+"""All Python is laid out by black, and passes flake8 and mypy in its strict form. Where one of these isn't installed,
+its test is left out and says so: a user needs none of them."""
 
 from __future__ import annotations
 
@@ -9,23 +9,47 @@ import unittest
 from pathlib import Path
 
 TOP = Path(__file__).resolve().parents[2]
-# What mypy is asked in one call each: a folder's scripts, or packages of tools/. New folders belong here.
+# What mypy is asked in one call each: a folder's scripts, or packages.
 STRICT = [
+    ["-p", "plift_lab"],
+    ["-p", "plift_tiles"],
     ["bench"],
+    ["lab"],
+    ["lab/tests"],
     ["recheck"],
     ["tools"],
     ["tools/native"],
     ["-p", "hints", "-p", "drawing"],
     ["tests/checkers"],
     ["tests/coq"],
+    ["tests/cost"],
     ["tests/definitions"],
+    ["tests/documents"],
+    ["tests/door"],
+    ["tests/drawing"],
     ["tests/duplicates"],
+    ["tests/hints"],
     ["tests/long"],
+    ["tests/lumped"],
     ["tests/memory"],
     ["tests/parameters"],
+    ["tests/property"],
+    ["tests/refine"],
+    ["tests/stored"],
+    ["tests/structure"],
     ["tests/style"],
+    ["tests/tiles"],
     ["tests/wrong-bodies"],
 ]
+
+
+# Where the packages lie.
+PACKAGES = {
+    "lab/plift_lab": "plift_lab",
+    "tiles/plift_tiles": "plift_tiles",
+    "tools/drawing": "drawing",
+    "tools/hints": "hints",
+}
 
 
 def python_files() -> list[str]:
@@ -50,7 +74,7 @@ class Style(unittest.TestCase):
     def needs(self, tool: str) -> None:
         """Leaves the test out where the tool isn't installed."""
         if shutil.which(tool) is None:
-            self.skipTest(f"{tool} isn't installed (apt install {'mypy' if tool == 'mypy' else tool})")
+            self.skipTest(f"{tool} isn't installed (apt install {tool})")
 
     def test_layout(self) -> None:
         """By black."""
@@ -61,6 +85,14 @@ class Style(unittest.TestCase):
         """By .flake8."""
         self.needs("flake8")
         self.assertEqual(said("flake8", *python_files()), "")
+
+    def test_all_is_typed(self) -> None:
+        """No folder with Python is left out of STRICT."""
+        asked = {word for words in STRICT for word in words}
+        folders = {str(Path(name).parent) for name in python_files()}
+        inside = {folder for folder in folders for place in PACKAGES if f"{folder}/".startswith(f"{place}/")}
+        self.assertEqual(sorted(folders - inside - asked), [])
+        self.assertEqual(set(PACKAGES.values()) - asked, set())
 
     def test_types(self) -> None:
         """By pyproject.toml, folder by folder."""

@@ -19,6 +19,7 @@ from plift_tiles.join import join  # noqa: E402
 from plift_tiles.split import split  # noqa: E402
 from plift_tiles.work import work  # noqa: E402
 
+__all__ = ["Job", "Program", "find_program", "join", "split", "work"]
 COMMAND = TOP / "plift-tiles"
 EXAMPLES = TOP / "examples"
 

@@ -104,6 +104,7 @@ def number_at(program: Program, asked: Question, bound: int) -> Optional[Fractio
 def bound_between(chance: random.Random, program: Program, asked: Question) -> Fraction:
     """A bound between the number that holds everywhere and the one that isn't exceeded anywhere."""
     low, high = number_at(program, asked, 0) or Fraction(0), number_at(program, asked, 1)
+    assert high is not None
     return (low + (high - low) * Fraction(chance.randint(1, 15), 16)).limit_denominator(10**6)
 
 

@@ -36,12 +36,14 @@ exit 0                                                    | 1   | 1: plift refus
 class Ends(TilesCase):
     """Calls that don't end as they should."""
 
-    def begun(self, line: str, program: Path, given: str) -> subprocess.Popen:
+    def begun(self, line: str, program: Path, given: str) -> "subprocess.Popen[bytes]":
         """A call that waits in its program."""
         environment = {**os.environ, "PLIFT_PROGRAM": str(program)}
         with open(self.folder / given, "rb") as source:
-            how = {"cwd": self.folder, "env": environment, "stdin": source, "stderr": subprocess.PIPE}
-            process = subprocess.Popen([COMMAND, *line.split()], **how)
+            process = subprocess.Popen(
+                [str(COMMAND), *line.split()], cwd=self.folder, env=environment, stdin=source, stderr=subprocess.PIPE
+            )
+        assert process.stderr
         self.addCleanup(process.stderr.close)
         for _ in range(600):
             if (self.folder / "slept").exists() and (self.folder / "slept").read_text().endswith("\n"):
@@ -49,7 +51,7 @@ class Ends(TilesCase):
             time.sleep(0.05)
         raise AssertionError("the program wasn't started")
 
-    def end(self, process: subprocess.Popen, number: int) -> bool:
+    def end(self, process: "subprocess.Popen[bytes]", number: int) -> bool:
         """Ends a call by a signal, and tells whether its program has ended, too."""
         child = int((self.folder / "slept").read_text())
         process.send_signal(number)
@@ -67,6 +69,7 @@ class Ends(TilesCase):
             self.assertTrue(self.end(process, number))
             self.assertEqual(process.returncode, 128 + number)
             told = b"plift-tiles: ended by a signal; what is done stays, and the same words go on\n"
+            assert process.stderr
             self.assertEqual((process.stderr.read(), self.parts(), job.left), (told, [], [1, 2, 3]))
             (self.folder / "slept").unlink()
 
@@ -104,6 +107,13 @@ class Ends(TilesCase):
                 self.assertEqual((job.left, self.parts()), ([int(word) for word in left.split()], []))
             work(self.program, job, [2])
 
+    def test_tiles_that_take_their_time(self) -> None:
+        """What is looked at while a program runs stops no tile that is read."""
+        job = self.job()
+        script = self.stand_in("""case "$1" in verify) sleep 0.7;; esac\nexec "$PLIFT" "$@"\n""")
+        self.assertEqual(self.call("work work 1 2 3", program=script), (0, b"", ""))
+        self.assertEqual((job.left, self.parts()), ([], []))
+
     def test_a_report_that_check_would_not_read(self) -> None:
         job = self.job()
         with mock.patch("plift_tiles.work.MOST_CHECKED_BYTES", 400), mock.patch("sys.stderr") as told:
@@ -120,7 +130,7 @@ class Ends(TilesCase):
         self.assertEqual(len(told), 1)
         self.assertIn(f"has {length} bytes, more than the 400", told[0])
 
-    def limited(self, line: str, given: bytes = b"") -> tuple:
+    def limited(self, line: str, given: bytes = b"") -> Answer:
         """What a call comes to that can write 300 bytes to a file."""
 
         def few() -> None:

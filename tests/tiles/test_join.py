@@ -2,6 +2,7 @@
 
 import shutil
 import unittest
+from typing import List
 
 from common import EXAMPLES, Job, TilesCase, joined, split, work, written
 from plift_lab.faults import Fault
@@ -42,7 +43,7 @@ state 2
 class Bytes(TilesCase):
     """Joined reports beside those of a single `verify`."""
 
-    def compare(self, model: bytes, words: list, depths: list) -> int:
+    def compare(self, model: bytes, words: List[str], depths: List[str]) -> int:
         """Takes a report from depth to depth, and returns how many tiles there were."""
         report, tiles = written(self.program, [*words, "--depth", depths[0]], model), 0
         for depth in depths[1:]:

@@ -4,6 +4,7 @@ import re
 import shlex
 import subprocess
 import unittest
+from typing import Set
 
 from common import COMMAND, TOP, TilesCase
 from plift_tiles.cli import COMMANDS
@@ -33,7 +34,7 @@ class Named(TilesCase):
         self.assertEqual(set(OPTION.findall(text)), OWN | {"--version"})
         self.assertEqual(set(re.findall(r"^        '(\w+):", text, re.M)), set(COMMANDS))
 
-    def offered(self, *words: str) -> set:
+    def offered(self, *words: str) -> Set[str]:
         """What bash offers for the last of these words."""
         lines = [
             f". {shlex.quote(str(TOP / 'completion/plift-tiles.bash'))}",
