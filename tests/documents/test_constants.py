@@ -20,7 +20,7 @@ NAMED = [
     ("float_guess/src/krylov.rt", "ENTRIES", "DECISIONS.md", "states and {} entries, 1 to"),
     ("float_guess/src/krylov.rt", "STATES", "PERFORMANCE.md", "has at most {} states and"),
     ("float_guess/src/krylov.rt", "ENTRIES", "PERFORMANCE.md", "states and {} transitions that count"),
-    ("float_guess/src/met.rt", "HELD_STATES", "PERFORMANCE.md", "a component of at most {} states one is held"),
+    ("float_guess/src/visited.rt", "HELD_STATES", "PERFORMANCE.md", "a component of at most {} states one is held"),
 ]
 
 

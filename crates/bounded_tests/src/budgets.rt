@@ -13,7 +13,7 @@ use std::alloc::{AllocError, Global};
 use std::fmt::Write;
 use std::string::String;
 use test_cases::{Asker, bound_of};
-use test_cells::{Teller, Untold, count, cut, cut_three};
+use test_cells::{Teller, Unreported, count, cut, cut_three};
 
 /// A coin that is tossed again in half of the cases, and one that is tossed until it shows heads with p. A toss costs 1.
 const TOSSED_AGAIN: &[u8] =
@@ -40,24 +40,24 @@ HEADS | 1/5<=p<=1 | 1 | 4 | 1/2 | split 0 unknown accept [7, 0] |
 STAYS | 3/5<=p<=9/10 | 0 | 4 | 1/1 | unknown |";
 
 /// Tells a tree, each word with a blank behind it.
-fn tell_tree(told: &mut String, branch: &CostBranch) -> Result<(), AllocError> {
+fn tell_tree(reported: &mut String, branch: &CostBranch) -> Result<(), AllocError> {
     match branch {
         CostBranch::Split { axis, lower, upper } => {
-            write!(told, "split {axis} ")?;
-            tell_tree(told, lower)?;
-            tell_tree(told, upper)
+            write!(reported, "split {axis} ")?;
+            tell_tree(reported, lower)?;
+            tell_tree(reported, upper)
         }
-        CostBranch::Accept { z } => write!(told, "accept {:?} ", z.as_slice()),
-        CostBranch::Unknown => told.push_str("unknown "),
+        CostBranch::Accept { z } => write!(reported, "accept {:?} ", z.as_slice()),
+        CostBranch::Unknown => reported.push_str("unknown "),
     }
 }
 
 /// A tree with a bar behind it.
 fn shown(alloc: Global, branch: &CostBranch) -> Result<String, AllocError> {
-    let mut told = String::new(alloc);
-    tell_tree(&mut told, branch)?;
-    told.push('|')?;
-    Ok(told)
+    let mut reported = String::new(alloc);
+    tell_tree(&mut reported, branch)?;
+    reported.push('|')?;
+    Ok(reported)
 }
 
 /// The text of that name.
@@ -70,18 +70,18 @@ fn text_of(name: &str) -> &'static [u8] {
 }
 
 /// The model of a text, with its costs.
-fn model_of(alloc: Global, text: &[u8]) -> Result<(Model, Costs), Untold> {
+fn model_of(alloc: Global, text: &[u8]) -> Result<(Model, Costs), Unreported> {
     if text.len() >= 1 << 31 {
-        return Err(Untold::Text(0));
+        return Err(Unreported::Text(0));
     }
     match read_costs(alloc, text, b"heads", b"steps") {
         Ok(read) => Ok(read),
-        Err(error) => Err(Untold::Text(error.line)),
+        Err(error) => Err(Unreported::Text(error.line)),
     }
 }
 
 /// A budget that is so large a part of a cap.
-fn budget_of(cap: u32, part: &str) -> Result<Budget, Untold> {
+fn budget_of(cap: u32, part: &str) -> Result<Budget, Unreported> {
     let part = bound_of(part)?;
     Ok(Budget {
         num: u64::from(cap) * u64::from(part.num),
@@ -114,40 +114,40 @@ struct Within<'a> {
 }
 
 impl Asker for Within<'_> {
-    type Told = String;
+    type Reported = String;
 
-    fn ask(&self, alloc: Global, case: &Case) -> Result<String, Untold> {
+    fn ask(&self, alloc: Global, case: &Case) -> Result<String, Unreported> {
         let (cap, part) = cut(self.cells);
         let cap = count(cap);
         let budget = budget_of(cap, part)?;
         if cap < 1 || self.costs.len() != case.model().states() as usize {
-            return Err(Untold::Cell);
+            return Err(Unreported::Cell);
         }
         let tree = tree_of(alloc, case, self.costs, cap, budget)?;
-        let told = shown(alloc, tree.top());
+        let reported = shown(alloc, tree.top());
         drop(tree);
-        Ok(told?)
+        Ok(reported?)
     }
 }
 
 struct Budgets;
 
 impl Teller for Budgets {
-    type Told = String;
+    type Reported = String;
 
-    type Error = Untold;
+    type Error = Unreported;
 
-    fn tell(&self, alloc: Global, asked: &str) -> Result<String, Untold> {
+    fn tell(&self, alloc: Global, asked: &str) -> Result<String, Unreported> {
         let (name, region, depth, cells) = cut_three(asked);
         let (model, costs) = model_of(alloc, text_of(name))?;
         let within = Within {
             costs: &costs,
             cells,
         };
-        let told = ask_over(alloc, &model, region, count(depth), &within);
+        let reported = ask_over(alloc, &model, region, count(depth), &within);
         drop(costs);
         drop(model);
-        told
+        reported
     }
 }
 

@@ -3,7 +3,7 @@
 use lift_model::Model;
 use std::alloc::Global;
 use test_cases::{Asker, Scope, model_of};
-use test_cells::Untold;
+use test_cells::Unreported;
 
 /// A coin that shows heads with p.
 pub(crate) const COIN: &[u8] =
@@ -47,9 +47,9 @@ pub(crate) fn ask_over<A: Asker>(
     region: &str,
     depth: u32,
     asker: &A,
-) -> Result<A::Told, Untold> {
+) -> Result<A::Reported, Unreported> {
     if depth > 20 {
-        return Err(Untold::Cell);
+        return Err(Unreported::Cell);
     }
     let scope = Scope {
         region: region.as_bytes(),
@@ -66,9 +66,9 @@ pub(crate) fn ask_named<A: Asker>(
     region: &str,
     depth: u32,
     asker: &A,
-) -> Result<A::Told, Untold> {
+) -> Result<A::Reported, Unreported> {
     let model = model_of(alloc, text_of(name), b"heads")?;
-    let told = ask_over(alloc, &model, region, depth, asker);
+    let reported = ask_over(alloc, &model, region, depth, asker);
     drop(model);
-    told
+    reported
 }

@@ -8,7 +8,7 @@ use test_cells::{Teller, is_shown};
 pub(crate) fn each_row<T: Teller>(rt: &impl Abort, alloc: Global, rows: &str, teller: &T) {
     for row in rows.lines() {
         let (asked, want) = row.rsplit_once(" | ").unwrap_or(("", row));
-        let told = teller.tell(alloc, asked);
-        assert!(rt; is_shown(alloc, &told, want), "{row}: {told:?}");
+        let reported = teller.tell(alloc, asked);
+        assert!(rt; is_shown(alloc, &reported, want), "{row}: {reported:?}");
     }
 }

@@ -13,9 +13,9 @@ use lift_model::Links;
 use std::alloc::{AllocError, Global};
 use std::string::String;
 use test_cases::Asker;
-use test_cells::{Teller, Untold, cut};
+use test_cells::{Teller, Unreported, cut};
 
-/// The model and its region; and at precision 4 the least upper vector for one scheduler with its picks, and the
+/// The model and its region; and at precision 4 the least upper vector for one scheduler with its choices, and the
 /// greatest lower vector for every scheduler with its ranks, e and k.
 ///
 /// A coin that shows heads with p, also where p may be 0; one that is tossed again in half of the cases, so that 7 is
@@ -63,7 +63,7 @@ fn table_of(alloc: Global, case: &Case, links: &Links) -> Result<Vec<i128>, Allo
     Ok(weights)
 }
 
-/// The least upper vector for one scheduler, with its picks, as they are shown.
+/// The least upper vector for one scheduler, with its choices, as they are shown.
 fn least_shown(
     alloc: Global,
     case: &Case,
@@ -116,9 +116,9 @@ fn both_by(alloc: Global, case: &Case, links: &Links) -> Result<String, AllocErr
 struct Both;
 
 impl Asker for Both {
-    type Told = String;
+    type Reported = String;
 
-    fn ask(&self, alloc: Global, case: &Case) -> Result<String, Untold> {
+    fn ask(&self, alloc: Global, case: &Case) -> Result<String, Unreported> {
         let links = Links::build(alloc, case.model())?;
         let both = both_by(alloc, case, &links);
         drop(links);
@@ -127,11 +127,11 @@ impl Asker for Both {
 }
 
 impl Teller for Both {
-    type Told = String;
+    type Reported = String;
 
-    type Error = Untold;
+    type Error = Unreported;
 
-    fn tell(&self, alloc: Global, asked: &str) -> Result<String, Untold> {
+    fn tell(&self, alloc: Global, asked: &str) -> Result<String, Unreported> {
         let (name, region) = cut(asked);
         ask_named(alloc, name, region, 0, self)
     }

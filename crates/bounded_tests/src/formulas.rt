@@ -13,10 +13,10 @@ use std::alloc::{AllocError, Global};
 use std::fmt::Write;
 use std::string::String;
 use test_cases::{Asker, bound_of};
-use test_cells::{Teller, Untold, count, cut_three};
+use test_cells::{Teller, Unreported, count, cut_three};
 
 /// The model, its region, the depth, how what is reached is compared with 1/2, and the tree in preorder at precision 4,
-/// a bar behind it. Of a decided leaf e and k are shown, if it is a lower one, its numbers, its picks and its ranks, of
+/// a bar behind it. Of a decided leaf e and k are shown, if it is a lower one, its numbers, its choices and its ranks, of
 /// which 4294967295 stands for none.
 ///
 /// Where a coin shows heads with 1/2 at most, the bound itself decides which comparisons hold and which fail; of two
@@ -34,16 +34,21 @@ TWIN | 1/4<=p<=3/4 | 0 | >= | unknown |
 SHORT_CUT | 0<=p<=1 | 0 | >= | lower_all 1 2 [8, 16, 0, 16] [2, 1, 4294967295, 0] |";
 
 /// Tells a tree, each word with a blank behind it.
-fn tell_tree(told: &mut String, branch: &DualBranch) -> Result<(), AllocError> {
+fn tell_tree(reported: &mut String, branch: &DualBranch) -> Result<(), AllocError> {
     match branch {
         DualBranch::Split { axis, lower, upper } => {
-            write!(told, "split {axis} ")?;
-            tell_tree(told, lower)?;
-            tell_tree(told, upper)
+            write!(reported, "split {axis} ")?;
+            tell_tree(reported, lower)?;
+            tell_tree(reported, upper)
         }
-        DualBranch::Upper { x } => write!(told, "upper {:?} ", x.as_slice()),
+        DualBranch::Upper { x } => write!(reported, "upper {:?} ", x.as_slice()),
         DualBranch::UpperOne { x, picks } => {
-            write!(told, "upper_one {:?} {:?} ", x.as_slice(), picks.as_slice())
+            write!(
+                reported,
+                "upper_one {:?} {:?} ",
+                x.as_slice(),
+                picks.as_slice()
+            )
         }
         DualBranch::Lower {
             e,
@@ -52,27 +57,27 @@ fn tell_tree(told: &mut String, branch: &DualBranch) -> Result<(), AllocError> {
             picks,
             ranks,
         } => {
-            write!(told, "lower {e} {k} {:?} ", y.as_slice())?;
-            write!(told, "{:?} {:?} ", picks.as_slice(), ranks.as_slice())
+            write!(reported, "lower {e} {k} {:?} ", y.as_slice())?;
+            write!(reported, "{:?} {:?} ", picks.as_slice(), ranks.as_slice())
         }
         DualBranch::LowerAll { e, k, y, ranks } => {
             write!(
-                told,
+                reported,
                 "lower_all {e} {k} {:?} {:?} ",
                 y.as_slice(),
                 ranks.as_slice()
             )
         }
-        DualBranch::Unknown => told.push_str("unknown "),
+        DualBranch::Unknown => reported.push_str("unknown "),
     }
 }
 
 /// A tree with a bar behind it.
 fn shown(alloc: Global, branch: &DualBranch) -> Result<String, AllocError> {
-    let mut told = String::new(alloc);
-    tell_tree(&mut told, branch)?;
-    told.push('|')?;
-    Ok(told)
+    let mut reported = String::new(alloc);
+    tell_tree(&mut reported, branch)?;
+    reported.push('|')?;
+    Ok(reported)
 }
 
 /// The comparison of a cell.
@@ -96,9 +101,9 @@ fn tree_by(
     requires { AreLinks case.now.model links.now }
 {
     let tree = build(alloc, case, links, op, bound)?;
-    let told = shown(alloc, tree.top());
+    let reported = shown(alloc, tree.top());
     drop(tree);
-    told
+    reported
 }
 
 /// A comparison with 1/2.
@@ -108,25 +113,25 @@ struct Comparison {
 }
 
 impl Asker for Comparison {
-    type Told = String;
+    type Reported = String;
 
-    fn ask(&self, alloc: Global, case: &Case) -> Result<String, Untold> {
+    fn ask(&self, alloc: Global, case: &Case) -> Result<String, Unreported> {
         let bound = bound_of("1/2")?;
         let links = Links::build(alloc, case.model())?;
-        let told = tree_by(alloc, case, &links, self.op, bound);
+        let reported = tree_by(alloc, case, &links, self.op, bound);
         drop(links);
-        Ok(told?)
+        Ok(reported?)
     }
 }
 
 struct Formulas;
 
 impl Teller for Formulas {
-    type Told = String;
+    type Reported = String;
 
-    type Error = Untold;
+    type Error = Unreported;
 
-    fn tell(&self, alloc: Global, asked: &str) -> Result<String, Untold> {
+    fn tell(&self, alloc: Global, asked: &str) -> Result<String, Unreported> {
         let (name, region, depth, op) = cut_three(asked);
         let comparison = Comparison { op: op_of(op) };
         ask_named(alloc, name, region, count(depth), &comparison)

@@ -10,7 +10,7 @@ use lift_model::Model;
 use std::alloc::{AllocError, Global};
 use std::string::String;
 use test_cases::model_of;
-use test_cells::{Teller, Untold};
+use test_cells::{Teller, Unreported};
 
 /// A die that is thrown with a coin: all its faces but one behave alike.
 const DIE: &[u8] = b"@type: DTMC\n@parameters\np\n@model\nstate 0 init\n1 : p\n2 : 1-p\n\
@@ -85,7 +85,7 @@ fn blocks_shown(alloc: Global, lumped: &Lumped, states: u32) -> Result<String, A
 }
 
 /// The blocks of a chain's states, or why it isn't lumped.
-fn blocks_told(alloc: Global, model: &Model) -> Result<String, AllocError>
+fn blocks_reported(alloc: Global, model: &Model) -> Result<String, AllocError>
     requires { GoalsHaveEntries model.now }
 {
     match lump(alloc, model) {
@@ -99,25 +99,25 @@ fn blocks_told(alloc: Global, model: &Model) -> Result<String, AllocError>
 }
 
 /// The same of any chain whose goal states have entries.
-fn told_of(alloc: Global, model: &Model) -> Result<String, Untold> {
+fn reported_of(alloc: Global, model: &Model) -> Result<String, Unreported> {
     if !goals_have_entries(model) {
-        return Err(Untold::Cell);
+        return Err(Unreported::Cell);
     }
-    Ok(blocks_told(alloc, model)?)
+    Ok(blocks_reported(alloc, model)?)
 }
 
 struct Blocks;
 
 impl Teller for Blocks {
-    type Told = String;
+    type Reported = String;
 
-    type Error = Untold;
+    type Error = Unreported;
 
-    fn tell(&self, alloc: Global, asked: &str) -> Result<String, Untold> {
+    fn tell(&self, alloc: Global, asked: &str) -> Result<String, Unreported> {
         let model = model_of(alloc, text_of(asked), b"goal")?;
-        let told = told_of(alloc, &model);
+        let reported = reported_of(alloc, &model);
         drop(model);
-        told
+        reported
     }
 }
 

@@ -7,7 +7,7 @@ use property_text::{Formula, read_formula, restrict};
 use std::alloc::{AllocError, Global};
 use std::string::String;
 use test_cases::model_of;
-use test_cells::{Teller, Untold, count, cut_three};
+use test_cells::{Teller, Unreported, count, cut_three};
 
 /// The comparison, the bound, the label of the safe states, `-` where there is none, and that of the goal states.
 fn formula_shown(alloc: Global, formula: &Formula) -> Result<String, AllocError> {
@@ -20,7 +20,7 @@ fn formula_shown(alloc: Global, formula: &Formula) -> Result<String, AllocError>
 struct Formulas;
 
 impl Teller for Formulas {
-    type Told = String;
+    type Reported = String;
 
     type Error = AllocError;
 
@@ -97,9 +97,9 @@ fn stays(row: &Row, state: u32, common: i64) -> bool {
 }
 
 /// How many entries the row of a state's choice has, and whether it stays in the state.
-fn row_shown(alloc: Global, model: &Model, state: u32, choice: u32) -> Result<String, Untold> {
+fn row_shown(alloc: Global, model: &Model, state: u32, choice: u32) -> Result<String, Unreported> {
     if state >= model.states() || choice >= model.choices(state) {
-        return Err(Untold::Cell);
+        return Err(Unreported::Cell);
     }
     let row = model.row(state, choice);
     let (count, stays) = (row.entries().len(), stays(row, state, model.common()));
@@ -122,9 +122,9 @@ fn cut_row(
     safe: &[bool],
     state: u32,
     choice: u32,
-) -> Result<String, Untold> {
+) -> Result<String, Unreported> {
     if safe.len() != model.states() as usize {
-        return Err(Untold::Cell);
+        return Err(Unreported::Cell);
     }
     let cut = restrict(alloc, model, safe)?;
     let shown = row_shown(alloc, &cut, state, choice);
@@ -133,13 +133,13 @@ fn cut_row(
 }
 
 /// The same of the model of a text.
-fn cut_told(
+fn cut_reported(
     alloc: Global,
     text: &[u8],
     safe: &[bool],
     state: u32,
     choice: u32,
-) -> Result<String, Untold> {
+) -> Result<String, Unreported> {
     let model = model_of(alloc, text, b"heads")?;
     let shown = cut_row(alloc, &model, safe, state, choice);
     drop(model);
@@ -149,15 +149,15 @@ fn cut_told(
 struct Cuts;
 
 impl Teller for Cuts {
-    type Told = String;
+    type Reported = String;
 
-    type Error = Untold;
+    type Error = Unreported;
 
-    fn tell(&self, alloc: Global, asked: &str) -> Result<String, Untold> {
+    fn tell(&self, alloc: Global, asked: &str) -> Result<String, Unreported> {
         let (name, safe, state, choice) = cut_three(asked);
         let text = if name == "COIN" { COIN } else { CHOICE };
         let safe = safe_of(alloc, safe)?;
-        cut_told(alloc, text, &safe, count(state), count(choice))
+        cut_reported(alloc, text, &safe, count(state), count(choice))
     }
 }
 

@@ -14,7 +14,7 @@ use lift_model::Links;
 use std::alloc::{AllocError, Global};
 use std::string::String;
 use test_cases::{Asker, bound_of};
-use test_cells::{Teller, Untold, count, cut, cut_three};
+use test_cells::{Teller, Unreported, count, cut, cut_three};
 
 /// In each table: the model, its region, the depth, the bound, the number of steps, and the text of the tree at precision
 /// 4, in which a `;` stands for a line feed.
@@ -100,27 +100,32 @@ fn is_written_till(
 }
 
 /// The text of a tree, by a sink that takes it; where a sink fails at its last byte, that has to be an error.
-fn tree_taken(alloc: Global, case: &Case, asked: Asked, out: &mut MemSink) -> Result<String, Untold>
+fn tree_taken(
+    alloc: Global,
+    case: &Case,
+    asked: Asked,
+    out: &mut MemSink,
+) -> Result<String, Unreported>
     requires { (1 ≤ asked.steps) × (asked.steps ≤ most_steps) }
 {
     if !is_written(alloc, case, asked, out)? {
-        return Err(Untold::Cell);
+        return Err(Unreported::Cell);
     }
     let text = out.taken();
     if is_written_till(alloc, case, asked, text.len() as u64)? {
-        return Err(Untold::Cell);
+        return Err(Unreported::Cell);
     }
     Ok(lines_shown(alloc, text)?)
 }
 
 /// The text of a tree.
-fn tree_told(alloc: Global, case: &Case, asked: Asked) -> Result<String, Untold>
+fn tree_reported(alloc: Global, case: &Case, asked: Asked) -> Result<String, Unreported>
     requires { (1 ≤ asked.steps) × (asked.steps ≤ most_steps) }
 {
     let mut out = sink(alloc, 0)?;
-    let told = tree_taken(alloc, case, asked, &mut out);
+    let reported = tree_taken(alloc, case, asked, &mut out);
     drop(out);
-    told
+    reported
 }
 
 /// The cells of a bound and of steps.
@@ -130,26 +135,26 @@ struct Within<'a> {
 }
 
 impl Asker for Within<'_> {
-    type Told = String;
+    type Reported = String;
 
-    fn ask(&self, alloc: Global, case: &Case) -> Result<String, Untold> {
+    fn ask(&self, alloc: Global, case: &Case) -> Result<String, Unreported> {
         let (bound, steps) = cut(self.cells);
         let (bound, steps) = (bound_of(bound)?, count(steps));
         if steps < 1 || steps > 64 {
-            return Err(Untold::Cell);
+            return Err(Unreported::Cell);
         }
-        tree_told(alloc, case, Asked { bound, steps })
+        tree_reported(alloc, case, Asked { bound, steps })
     }
 }
 
 struct Trees;
 
 impl Teller for Trees {
-    type Told = String;
+    type Reported = String;
 
-    type Error = Untold;
+    type Error = Unreported;
 
-    fn tell(&self, alloc: Global, asked: &str) -> Result<String, Untold> {
+    fn tell(&self, alloc: Global, asked: &str) -> Result<String, Unreported> {
         let (name, region, depth, cells) = cut_three(asked);
         ask_named(alloc, name, region, count(depth), &Within { cells })
     }

@@ -16,7 +16,7 @@ use Rattle.cert_text.specs.Nodes.{fits_state, fit_states}
 use Rattle.cert_text.specs.Head.{HeadData, case_at}
 use Rattle.cert_text.specs.Forms.{AreMarks, IsHead, IsReject, IsTree}
 use Rattle.cert_check.specs.Sound.{IsSoundTree}
-use Rattle.cert_check.specs.Laws.{CanBeTold, SoundTreesAreReports}
+use Rattle.cert_check.specs.Laws.{CanBeReported, SoundTreesAreReports}
 use Rattle.cert_check.specs.Shown.{IsPlaced, RootIsPlaced, HalvesArePlaced}
 use Rattle.cert_check.proofs.Precise.{precise_case}
 
@@ -137,9 +137,9 @@ reject_form k r h = record {
   others = λ s is. other s (other_fits (mark r.ranks s == unmarked) (mark r.picks s) (mark r.ranks s) refl (subst (λ g. fits_state g (mark r.picks s) (mark r.ranks s) ≡ true) is (fits_at k.model.goal r.picks r.ranks h.places s)));
 }
   where
-    pick_in : (s : ℕ) → (mark r.picks s ≡ unmarked → ⊥) → (mark r.picks s ≡ unmarked) ⊎ (mark r.picks s < get_or (map length k.model.states) s 0) → mark r.picks s < length (choices k.model s)
-    pick_in s never (inl e) = absurd (never e)
-    pick_in s never (inr lt) = subst (λ n. mark r.picks s < n) (length_at k.model.states s) lt
+    choice_in : (s : ℕ) → (mark r.picks s ≡ unmarked → ⊥) → (mark r.picks s ≡ unmarked) ⊎ (mark r.picks s < get_or (map length k.model.states) s 0) → mark r.picks s < length (choices k.model s)
+    choice_in s never (inl e) = absurd (never e)
+    choice_in s never (inr lt) = subst (λ n. mark r.picks s < n) (length_at k.model.states s) lt
 
     rank_in : (s : ℕ) → (mark r.ranks s ≡ unmarked → ⊥) → (mark r.ranks s ≡ unmarked) ⊎ (mark r.ranks s < get_or (map (λ _. r.k + 1) k.model.states) s 0) → mark r.ranks s ≤ r.k
     rank_in s never (inl e) = absurd (never e)
@@ -149,7 +149,7 @@ reject_form k r h = record {
     other s (inl u) = inl u
     other s (inr m) = inr (record {
       rank = (m.0, rank_in s m.1 (mark_at (map (λ _. r.k + 1) k.model.states) r.ranks h.ranks s));
-      pick = pick_in s m.2 (mark_at (map length k.model.states) r.picks h.picks s);
+      pick = choice_in s m.2 (mark_at (map length k.model.states) r.picks h.picks s);
     })
 
 -- ---- and as it is told
@@ -178,18 +178,18 @@ module _ (k : CaseData) (is : IsCase k) (spans : Spans) (r : RejectData) (low : 
   ranked_state : (s : ℕ) → is_goal k.model s ≡ false → (mark r.ranks s ≡ unmarked → ⊥) → mark r.ranks s < unmarked
   ranked_state s goal never = let most = mark_small r.ranks low.marks s in omega (arith, most, never)
 
-  some_pick : (s : ℕ) → mark r.picks s < length (choices k.model s) → mark r.picks s < unmarked
-  some_pick s lt = let few = is.asked.model.choices in let all = length_below k.model.states s in omega (arith, lt, few, all)
+  some_choice : (s : ℕ) → mark r.picks s < length (choices k.model s) → mark r.picks s < unmarked
+  some_choice s lt = let few = is.asked.model.choices in let all = length_below k.model.states s in omega (arith, lt, few, all)
 
   state_fits : (s : ℕ) (g : Bool) → is_goal k.model s ≡ g → fits_state g (mark r.picks s) (mark r.ranks s) ≡ true
   state_fits s true goal = let h = low.goal s goal in both_true (mark r.picks s == unmarked) (mark r.ranks s == 0) (eq-eqb (mark r.picks s) unmarked h.2) (eq-eqb (mark r.ranks s) 0 h.1)
   state_fits s false goal =
       other_marks (mark r.ranks s == unmarked) (mark r.picks s) (mark r.ranks s) refl
       (λ e. (low.unranked s goal (omega (arith, e))).1)
-      (λ never. let held = low.held s goal (ranked_state s goal never) in (held.rank.0, some_pick s held.pick))
+      (λ never. let held = low.held s goal (ranked_state s goal never) in (held.rank.0, some_choice s held.pick))
 
-  pick_mark : (s : ℕ) → (mark r.picks s ≡ unmarked) ⊎ (mark r.picks s < get_or (map length k.model.states) s 0)
-  pick_mark s = by (is_goal k.model s) refl
+  choice_mark : (s : ℕ) → (mark r.picks s ≡ unmarked) ⊎ (mark r.picks s < get_or (map length k.model.states) s 0)
+  choice_mark s = by (is_goal k.model s) refl
     where
       by : (g : Bool) → is_goal k.model s ≡ g → (mark r.picks s ≡ unmarked) ⊎ (mark r.picks s < get_or (map length k.model.states) s 0)
       by true goal = inl ((low.goal s goal).2)
@@ -206,10 +206,10 @@ module _ (k : CaseData) (is : IsCase k) (spans : Spans) (r : RejectData) (low : 
           (λ e. inr (end_same (r.k + 1) k.model.states s (mark r.ranks s) lt (let held = (low.held s goal (ltb-true (mark r.ranks s) unmarked e)).rank in omega (arith, held.1))))
           (λ e. inl (let most = mark_small r.ranks low.marks s in let least = ltb-false (mark r.ranks s) unmarked e in omega (arith, most, least)))
 
-  lower_told : r.k ≤ most_height → IsReject k r
-  lower_told most = record {
+  lower_reported : r.k ≤ most_height → IsReject k r
+  lower_reported most = record {
     numbers = low.numbers;
-    picks = marks_from (map length k.model.states) r.picks (low.sizes.0 ∙ sym (map_length length k.model.states)) (λ s lt. pick_mark s);
+    picks = marks_from (map length k.model.states) r.picks (low.sizes.0 ∙ sym (map_length length k.model.states)) (λ s lt. choice_mark s);
     ranks = marks_from (map (λ _. r.k + 1) k.model.states) r.ranks (low.sizes.1 ∙ sym (map_length (λ _. r.k + 1) k.model.states)) (λ s lt. rank_mark s (subst (λ n. s < n) (map_length (λ _. r.k + 1) k.model.states) lt));
     rate = (low.bounds.0, low.bounds.1, most);
     places = fits_from k.model.goal r.picks r.ranks (low.sizes.0 ∙ sym is.asked.model.goals) (low.sizes.1 ∙ sym is.asked.model.goals) (λ s. state_fits s (is_goal k.model s) refl);
@@ -224,26 +224,26 @@ within_length [] (r ∷ root) h = absurd h
 within_length (s ∷ spans) [] h = absurd h
 
 module _ (placed : HalvesArePlaced) (live_spans : LiveHasSpan) (h : HeadData) (head : IsHead h) (is : IsCase h.asked) where
-  tree_told : (t : Tree) (levels depth : ℕ) (spans : Spans) → depth + levels ≡ greatest_depth h.asked → IsPlaced h.asked levels spans → IsSoundTree h.asked h.bound spans depth t → CanBeTold h t → IsTree h t
-  tree_told (accept u x) levels depth spans e at s told = (told, s.upper.numbers)
-  tree_told (reject u r) levels depth spans e at s told = (told.0, lower_told (case_at u h.asked) (precise_case h u head is told.0) spans r s.holds told.1)
-  tree_told unknown levels depth spans e at s told = tt
-  tree_told (split axis lower upper) zero depth spans e at s told = absurd (omega (arith, s.0.left))
-  tree_told (split axis lower upper) (suc levels) depth spans e at s told =
+  tree_reported : (t : Tree) (levels depth : ℕ) (spans : Spans) → depth + levels ≡ greatest_depth h.asked → IsPlaced h.asked levels spans → IsSoundTree h.asked h.bound spans depth t → CanBeReported h t → IsTree h t
+  tree_reported (accept u x) levels depth spans e at s reported = (reported, s.upper.numbers)
+  tree_reported (reject u r) levels depth spans e at s reported = (reported.0, lower_reported (case_at u h.asked) (precise_case h u head is reported.0) spans r s.holds reported.1)
+  tree_reported unknown levels depth spans e at s reported = tt
+  tree_reported (split axis lower upper) zero depth spans e at s reported = absurd (omega (arith, s.0.left))
+  tree_reported (split axis lower upper) (suc levels) depth spans e at s reported =
       let next = placed h.asked levels axis spans is at s.0.axis_is in
       let below = live_spans h.asked spans axis is at.inside s.0.axis_is.is_live in
       let size = within_length spans h.asked.root at.inside.within in
       let count = is.asked.grid.one_each in (
         omega (arith, below, size, count),
-        tree_told lower levels (depth + 1) (lower_half axis spans) (omega arith) next.1 s.1 told.0,
-        tree_told upper levels (depth + 1) (upper_half axis spans) (omega arith) next.2 s.2 told.1,
+        tree_reported lower levels (depth + 1) (lower_half axis spans) (omega arith) next.1 s.1 reported.0,
+        tree_reported upper levels (depth + 1) (upper_half axis spans) (omega arith) next.2 s.2 reported.1,
       )
 
 pub trees_are_reports : RootIsPlaced → HalvesArePlaced → LiveHasSpan → SoundTreesAreReports
-trees_are_reports root placed live_spans h t head admitted s told =
+trees_are_reports root placed live_spans h t head admitted s reported =
     let is : IsCase h.asked = record { asked = head.asked; admitted = admitted } in
     record {
-      report = record { head = head; nodes = tree_told placed live_spans h head is t (greatest_depth h.asked) 0 h.asked.root (omega arith) (root h.asked is) s told };
+      report = record { head = head; nodes = tree_reported placed live_spans h head is t (greatest_depth h.asked) 0 h.asked.root (omega arith) (root h.asked is) s reported };
       admitted = admitted;
       tree = s;
     }

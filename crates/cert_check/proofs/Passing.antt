@@ -15,7 +15,7 @@ use Rattle.cert_text.specs.Head.{HeadData, head_at, version}
 use Rattle.cert_text.specs.Nodes.{Node, split, accept, reject, unknown, node_at, node_lines}
 use Rattle.cert_text.specs.Report.{tree_lines}
 use Rattle.cert_text.specs.Forms.{IsHead, IsNode, IsTree}
-use Rattle.cert_text.specs.Laws.{told_lines, ReadHeadsAreTold, ReadNodesAreTold}
+use Rattle.cert_text.specs.Laws.{reported_lines, ReadHeadsAreReported, ReadNodesAreReported}
 use Rattle.cert_check.specs.Sound.{IsSoundTree, IsSoundFile, leaf_counts}
 use Rattle.cert_check.specs.Answer.{Came, Answer, Ending, NodeEnds, ReadEnds, HalfEnds, TreeEnds, FileEnds, start, behind, one_accept, one_reject, one_unknown, rest_of}
 use Rattle.cert_check.specs.Laws.{PassingFilesAreSound}
@@ -30,26 +30,26 @@ ok_not_err x e is = cc
 ok_is : {A : Type 0} (x y : A) → ◌≡◌ {A = Answer A} (Ok x) (Ok y) → x ≡ y
 ok_is x y e = cc
 
-module _ (told : ReadNodesAreTold) (h : HeadData) (head : IsHead h) where
+module _ (reported : ReadNodesAreReported) (h : HeadData) (head : IsHead h) where
   -- a walk that ended without fault went over the nodes of a sound tree
   record Passed (depth : ℕ) (spans : Spans) (came next : Came) : Type 0 where
     tree : Tree
     fit : IsTree h tree
     sound : IsSoundTree h.asked h.bound spans depth tree
     text : came.place.1 ≡ concat (tree_lines h.from h.asked.model.init tree) ++ next.place.1
-    met : next.leaves ≡ plus came.leaves (leaf_counts (version h) tree)
+    visited : next.leaves ≡ plus came.leaves (leaf_counts (version h) tree)
 
   -- a leaf
   leaf : (depth : ℕ) (spans : Spans) (came next : Came) (t : Tree) (node : Node) (c : Cursor) (leaves : Summary) → node_at h came.place ≡ Ok (node, c) → tree_lines h.from h.asked.model.init t ≡ node_lines h.from h.asked.model.init node → (IsNode h node → IsTree h t)
       → IsSoundTree h.asked h.bound spans depth t → next ≡ behind came c leaves → leaves ≡ plus came.leaves (leaf_counts (version h) t) → Passed depth spans came next
-  leaf depth spans came next t node c leaves read lines fits sound is met =
-      let n = told h node came.place.0 c.0 came.place.1 c.1 head read in
+  leaf depth spans came next t node c leaves read lines fits sound is visited =
+      let n = reported h node came.place.0 c.0 came.place.1 c.1 head read in
       record {
         tree = t;
         fit = fits n.0;
         sound = sound;
         text = n.1 ∙ ap (λ (ls : List (List ℕ)). concat ls ++ c.1) (sym lines) ∙ ap (λ (m : Came). concat (tree_lines h.from h.asked.model.init t) ++ m.place.1) (sym is);
-        met = ap (λ (m : Came). m.leaves) is ∙ met;
+        visited = ap (λ (m : Came). m.leaves) is ∙ visited;
       }
 
   -- the halves of a rectangle that may be halved so often
@@ -60,7 +60,7 @@ module _ (told : ReadNodesAreTold) (h : HeadData) (head : IsHead h) where
   two : (depth axis : ℕ) (spans : Spans) (came between next : Came) (c : Cursor) → node_at h came.place ≡ Ok (split axis, c) → (depth < greatest_depth h.asked) × IsSplitAxis (live h.asked.model) spans axis
       → Passed (depth + 1) (lower_half axis spans) (behind came c came.leaves) between → Passed (depth + 1) (upper_half axis spans) between next → Passed depth spans came next
   two depth axis spans came between next c read left one other =
-      let n = told h (split axis) came.place.0 c.0 came.place.1 c.1 head read in
+      let n = reported h (split axis) came.place.0 c.0 came.place.1 c.1 head read in
       let a = tree_lines h.from h.asked.model.init one.tree in
       let b = tree_lines h.from h.asked.model.init other.tree in
       let own = node_lines h.from h.asked.model.init (split axis) in
@@ -73,11 +73,11 @@ module _ (told : ReadNodesAreTold) (h : HeadData) (head : IsHead h) where
             ∙ ap (λ l. concat own ++ (l ++ next.place.1)) (sym (concat-append a b))
             ∙ sym (append_assoc (concat own) (concat (a ++ b)) next.place.1)
             ∙ ap (λ l. l ++ next.place.1) (sym (concat-append own (a ++ b)));
-        met = leaves_are next.leaves (plus came.leaves (leaf_counts (version h) (splits axis one.tree other.tree)))
-            (omega (arith, ap (λ (s : Summary). s.accept) one.met, ap (λ (s : Summary). s.accept) other.met))
-            (omega (arith, ap (λ (s : Summary). s.reject) one.met, ap (λ (s : Summary). s.reject) other.met))
-            (omega (arith, ap (λ (s : Summary). s.unknown) one.met, ap (λ (s : Summary). s.unknown) other.met))
-            (ap (λ (s : Summary). s.version) other.met ∙ ap (λ (s : Summary). s.version) one.met);
+        visited = leaves_are next.leaves (plus came.leaves (leaf_counts (version h) (splits axis one.tree other.tree)))
+            (omega (arith, ap (λ (s : Summary). s.accept) one.visited, ap (λ (s : Summary). s.accept) other.visited))
+            (omega (arith, ap (λ (s : Summary). s.reject) one.visited, ap (λ (s : Summary). s.reject) other.visited))
+            (omega (arith, ap (λ (s : Summary). s.unknown) one.visited, ap (λ (s : Summary). s.unknown) other.visited))
+            (ap (λ (s : Summary). s.version) other.visited ∙ ap (λ (s : Summary). s.version) one.visited);
       }
 
   by_node : (levels depth : ℕ) (halves : Ending) → PassesBelow levels depth halves → depth + levels ≡ greatest_depth h.asked → (spans : Spans) (came next : Came) (node : Node) (c : Cursor) → node_at h came.place ≡ Ok (node, c)
@@ -108,12 +108,12 @@ module _ (told : ReadNodesAreTold) (h : HeadData) (head : IsHead h) where
 
 -- ---- the whole
 
-rest_none : (bytes : List ℕ) (met leaves : Summary) → Ok leaves ≡ rest_of bytes met → (bytes ≡ []) × (leaves ≡ met)
-rest_none [] met leaves e = (refl, ok_is _ _ e)
-rest_none (b ∷ bytes) met leaves e = absurd (ok_not_err _ _ e)
+rest_none : (bytes : List ℕ) (visited leaves : Summary) → Ok leaves ≡ rest_of bytes visited → (bytes ≡ []) × (leaves ≡ visited)
+rest_none [] visited leaves e = (refl, ok_is _ _ e)
+rest_none (b ∷ bytes) visited leaves e = absurd (ok_not_err _ _ e)
 
-pub passing_sound : ReadHeadsAreTold → ReadNodesAreTold → PassingFilesAreSound
-passing_sound heads told bytes leaves p = by_head (head_at (1, bytes)) refl p
+pub passing_sound : ReadHeadsAreReported → ReadNodesAreReported → PassingFilesAreSound
+passing_sound heads reported bytes leaves p = by_head (head_at (1, bytes)) refl p
   where
     by_head : (r : Result (HeadData × Cursor) TextError) → head_at (1, bytes) ≡ r → FileEnds r (Ok leaves) → IsSoundFile bytes leaves
     by_head (Err e) is q = absurd (ok_not_err _ _ q)
@@ -121,12 +121,12 @@ passing_sound heads told bytes leaves p = by_head (head_at (1, bytes)) refl p
     by_head (Ok (h, c)) is (inl (admitted, (Err f, first, goes))) = absurd (ok_not_err _ _ goes)
     by_head (Ok (h, c)) is (inl (admitted, (Ok next, first, goes))) =
         let t = heads h 1 c.0 bytes c.1 is in
-        let passed = tree_passes told h t.0 (greatest_depth h.asked) 0 (omega arith) h.asked.root (start h c) next first in
+        let passed = tree_passes reported h t.0 (greatest_depth h.asked) 0 (omega arith) h.asked.root (start h c) next first in
         let none = rest_none next.place.1 next.leaves leaves goes in
         record {
           head = h;
           tree = passed.tree;
           sound = record { report = record { head = t.0; nodes = passed.fit }; admitted = admitted; tree = passed.sound };
-          text = t.1 ∙ ap (λ l. concat (told_lines h) ++ l) (passed.text ∙ ap (λ l. concat (tree_lines h.from h.asked.model.init passed.tree) ++ l) none.0 ∙ append-nil (concat (tree_lines h.from h.asked.model.init passed.tree)));
-          counts = none.1 ∙ passed.met ∙ none_and (version h) passed.tree;
+          text = t.1 ∙ ap (λ l. concat (reported_lines h) ++ l) (passed.text ∙ ap (λ l. concat (tree_lines h.from h.asked.model.init passed.tree) ++ l) none.0 ∙ append-nil (concat (tree_lines h.from h.asked.model.init passed.tree)));
+          counts = none.1 ∙ passed.visited ∙ none_and (version h) passed.tree;
         }

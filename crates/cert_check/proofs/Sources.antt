@@ -12,14 +12,14 @@ use Rattle.lift_base.specs.Lines.{LinesData, fresh}
 use Rattle.lift_base.specs.Lines.{KeepsLimit as KeepsLines}
 use Rattle.line_text.specs.Follow.{Ran, place}
 use Rattle.line_text.specs.Laws.{EndsWithin, EndsBeyond}
-use Rattle.line_text.specs.Met.{WasMet}
+use Rattle.line_text.specs.Found.{WasFound}
 use Rattle.cert_text.specs.Head.{head_at}
 use Rattle.cert_check.specs.Answer.{Answer, Answers, FileEnds}
 use Rattle.cert_check.specs.Laws.{AnswersAreOne, PassingFilesAreSound, SoundFilesPass, SoundReportsHold}
 use Rattle.cert_check.specs.Trust.{IsTrusted}
 use Rattle.cert_check.specs.Sound.{IsSoundFile}
-use Rattle.cert_check.specs.Source.{AnswersTold, ChecksSource, CountsFault, KeepsLimit, TellsSmallNumbers}
-use Rattle.cert_check.specs.Shown.{Checks, Says, IsOfFile, IsToldOfFile, failure_of, leaves_in}
+use Rattle.cert_check.specs.Source.{AnswersReported, ChecksSource, CountsFault, KeepsLimit, TellsSmallNumbers}
+use Rattle.cert_check.specs.Shown.{Checks, Says, IsOfFile, IsReportedOfFile, failure_of, leaves_in}
 use Rattle.cert_check.specs.declared.file.Checked.{Checked}
 use Rattle.cert_check.specs.declared.summary.Summary.{Summary}
 use Rattle.cert_check.specs.declared.error.CheckError.{CheckError}
@@ -38,8 +38,8 @@ module _ {S : Type 0} (left : S → Option (List ℕ)) (faults : S → ℕ) (wit
   few result f none = within limit text c s u f.bytes (subst (λ o. Ran left faults (fresh limit text) c s u f.bytes o) none f.ran) keeps
 
   -- then a fault that is told is that of the bytes that were taken, whatever may follow them
-  met : (e : CheckError) → IsOfFile e → failure_of {X = Summary} (Err e) ≡ None → Comes (Err e) → WasMet limit (λ bytes. Answers bytes (Err e)) (left s) (left u)
-  met e of none f =
+  found : (e : CheckError) → IsOfFile e → failure_of {X = Summary} (Err e) ≡ None → Comes (Err e) → WasFound limit (λ bytes. Answers bytes (Err e)) (left s) (left u)
+  found e of none f =
       let size = few (Err e) f none in
       record { bytes = f.bytes; consumed = f.ran.took.consumed; small = size.0; ended = c.ended; finished = size.1; has = λ later may. f.agrees of later may }
 
@@ -65,12 +65,12 @@ module _ {S : Type 0} (left : S → Option (List ℕ)) (faults : S → ℕ) (wit
   source_checked sound holds (Err Fault) ended f = rose f.ran.fault.1
   source_checked sound holds (Err TooLong) ended f = (f.bytes, f.ran.took.consumed, beyond limit text c s u f.bytes f.ran keeps)
   source_checked sound holds (Err Memory) ended f = tt
-  source_checked sound holds (Err (Text e)) ended f = met (Text e) tt refl f
-  source_checked sound holds (Err (Rows e)) ended f = met (Rows e) tt refl f
-  source_checked sound holds (Err (Missed node miss)) ended f = met (Missed node miss) tt refl f
-  source_checked sound holds (Err (Depth node)) ended f = met (Depth node) tt refl f
-  source_checked sound holds (Err (Axis node)) ended f = met (Axis node) tt refl f
-  source_checked sound holds (Err Rest) ended f = met Rest tt refl f
+  source_checked sound holds (Err (Text e)) ended f = found (Text e) tt refl f
+  source_checked sound holds (Err (Rows e)) ended f = found (Rows e) tt refl f
+  source_checked sound holds (Err (Missed node miss)) ended f = found (Missed node miss) tt refl f
+  source_checked sound holds (Err (Depth node)) ended f = found (Depth node) tt refl f
+  source_checked sound holds (Err (Axis node)) ended f = found (Axis node) tt refl f
+  source_checked sound holds (Err Rest) ended f = found Rest tt refl f
 
   few_taken : (result : Answer Summary) (f : Comes result) → failure_of result ≡ None → TakenHas (λ bytes. length bytes ≤ limit) (left s) (left u)
   few_taken result f none = (f.bytes, f.ran.took.consumed, (few result f none).0)
@@ -130,15 +130,15 @@ none_taken limit old = ([], Consumes-nil old, omega arith)
 
 -- what was read of bytes that are told is all of them
 all_read : (bytes text : List ℕ) (old new : Option (List ℕ)) → old ≡ Some bytes → Consumes old new text → IsAtEnd new → text ≡ bytes
-all_read bytes text old new told consumed ended = by new (subst (λ o. Consumes o new text) told consumed) ended
+all_read bytes text old new reported consumed ended = by new (subst (λ o. Consumes o new text) reported consumed) ended
   where
     by : (new : Option (List ℕ)) → Consumes (Some bytes) new text → IsAtEnd new → text ≡ bytes
     by None c e = absurd c
     by (Some rest) c e = sym (c ∙ ap (λ r. text ++ r) e ∙ append-nil text)
 
 -- what holds whatever may follow holds of all bytes
-all_met : (P : List ℕ → Type 0) (limit : ℕ) (bytes : List ℕ) (old new : Option (List ℕ)) → old ≡ Some bytes → WasMet limit P old new → P bytes
-all_met P limit bytes old new told m = by new (subst (λ o. Consumes o new m.bytes) told m.consumed) m.finished
+all_found : (P : List ℕ → Type 0) (limit : ℕ) (bytes : List ℕ) (old new : Option (List ℕ)) → old ≡ Some bytes → WasFound limit P old new → P bytes
+all_found P limit bytes old new reported m = by new (subst (λ o. Consumes o new m.bytes) reported m.consumed) m.finished
   where
     by : (new : Option (List ℕ)) → Consumes (Some bytes) new m.bytes → (IsTrue m.ended → IsAtEnd new) → P bytes
     by None c e = absurd c
@@ -146,16 +146,16 @@ all_met P limit bytes old new told m = by new (subst (λ o. Consumes o new m.byt
 
 -- no more are taken than are told
 not_more : (n : ℕ) (bytes : List ℕ) (old new : Option (List ℕ)) → old ≡ Some bytes → TakenHas (λ b. n < length b) old new → length bytes ≤ n → ⊥
-not_more n bytes old new told (taken, consumed, more) few = by new (subst (λ o. Consumes o new taken) told consumed)
+not_more n bytes old new reported (taken, consumed, more) few = by new (subst (λ o. Consumes o new taken) reported consumed)
   where
     by : (new : Option (List ℕ)) → Consumes (Some bytes) new taken → ⊥
     by None c = c
     by (Some rest) c = let size = length-append taken rest in let all = ap (λ (b : List ℕ). length b) c in omega (arith, more, few, size, all)
 
-module _ {S : Type 0} (limit : ℕ) (left : S → Option (List ℕ)) (faults : S → ℕ) (old new : S) (pass : SoundFilesPass) (bytes : List ℕ) (told : left old ≡ Some bytes) where
+module _ {S : Type 0} (limit : ℕ) (left : S → Option (List ℕ)) (faults : S → ℕ) (old new : S) (pass : SoundFilesPass) (bytes : List ℕ) (reported : left old ≡ Some bytes) where
   -- the first fault that was met is that of the whole
-  met_of : (e : CheckError) → WasMet limit (λ b. Answers b (Err e)) (left old) (left new) → Answers bytes (Err e)
-  met_of e m = all_met (λ b. Answers b (Err e)) limit bytes (left old) (left new) told m
+  found_of : (e : CheckError) → WasFound limit (λ b. Answers b (Err e)) (left old) (left new) → Answers bytes (Err e)
+  found_of e m = all_found (λ b. Answers b (Err e)) limit bytes (left old) (left new) reported m
 
   -- what is answered may be answered, or a fault was counted, or more bytes are told than the limit, or memory ran out
   abbrev Ends : Answer Summary → Type 0
@@ -165,16 +165,16 @@ module _ {S : Type 0} (limit : ℕ) (left : S → Option (List ℕ)) (faults : S
   Ends result = Answers bytes result
 
   ends : (result : Answer Summary) → ChecksSource limit left faults old new result → Ends result
-  ends (Ok leaves) h = subst (λ b. Answers b (Ok leaves)) (all_read bytes h.bytes (left old) (left new) told h.consumed h.finished) (pass h.bytes leaves h.has.file)
+  ends (Ok leaves) h = subst (λ b. Answers b (Ok leaves)) (all_read bytes h.bytes (left old) (left new) reported h.consumed h.finished) (pass h.bytes leaves h.has.file)
   ends (Err Fault) h = h
-  ends (Err TooLong) h = not_more limit bytes (left old) (left new) told h
+  ends (Err TooLong) h = not_more limit bytes (left old) (left new) reported h
   ends (Err Memory) h = tt
-  ends (Err (Text e)) h = met_of (Text e) h
-  ends (Err (Rows e)) h = met_of (Rows e) h
-  ends (Err (Missed node miss)) h = met_of (Missed node miss) h
-  ends (Err (Depth node)) h = met_of (Depth node) h
-  ends (Err (Axis node)) h = met_of (Axis node) h
-  ends (Err Rest) h = met_of Rest h
+  ends (Err (Text e)) h = found_of (Text e) h
+  ends (Err (Rows e)) h = found_of (Rows e) h
+  ends (Err (Missed node miss)) h = found_of (Missed node miss) h
+  ends (Err (Depth node)) h = found_of (Depth node) h
+  ends (Err (Axis node)) h = found_of (Axis node) h
+  ends (Err Rest) h = found_of Rest h
 
   one_answer : AnswersAreOne → (answer result : Answer Summary) → Answers bytes answer → length bytes ≤ limit → (Rose (faults old) (faults new) → ⊥) → Ends result → (result ≡ answer) ⊎ (result ≡ Err Memory)
   one_answer one answer (Ok leaves) may small calm h = inl (one bytes (Ok leaves) answer h may)
@@ -189,10 +189,10 @@ module _ {S : Type 0} (limit : ℕ) (left : S → Option (List ℕ)) (faults : S
   one_answer one answer (Err Rest) may small calm h = inl (one bytes (Err Rest) answer h may)
 
 -- what may be answered to told bytes is answered
-pub told_answered : {S : Type 0} (limit : ℕ) (left : S → Option (List ℕ)) (faults : S → ℕ) (old new : S) → SoundFilesPass → AnswersAreOne → (result : Answer Summary) → ChecksSource limit left faults old new result
-    → AnswersTold limit (left old) (faults old) (faults new) result
-told_answered limit left faults old new pass one result h bytes answer told may small calm =
-    one_answer limit left faults old new pass bytes told one answer result may small calm (ends limit left faults old new pass bytes told result h)
+pub reported_answered : {S : Type 0} (limit : ℕ) (left : S → Option (List ℕ)) (faults : S → ℕ) (old new : S) → SoundFilesPass → AnswersAreOne → (result : Answer Summary) → ChecksSource limit left faults old new result
+    → AnswersReported limit (left old) (faults old) (faults new) result
+reported_answered limit left faults old new pass one result h bytes answer reported may small calm =
+    one_answer limit left faults old new pass bytes reported one answer result may small calm (ends limit left faults old new pass bytes reported result h)
 
 -- ---- a text in memory
 
@@ -216,17 +216,17 @@ module _ (limit : ℕ) (old new : List ℕ) (pass : SoundFilesPass) (small : len
       by (Err (Axis node)) h = λ _. h
       by (Err Rest) h = λ _. h
 
-  pub text_told : (result : Answer Summary) → ChecksSource limit (λ (s : List ℕ). Some s) (λ _. 0) old new result → IfErr result TellsSmallNumbers → IfErr result IsToldOfFile
-  text_told (Ok leaves) h told = tt
-  text_told (Err Fault) h told = still h
-  text_told (Err TooLong) h told = not_more limit old (Some old) (Some new) refl h small
-  text_told (Err Memory) h told = tt
-  text_told (Err (Text e)) h told = tt
-  text_told (Err (Rows e)) h told = told
-  text_told (Err (Missed node miss)) h told = told
-  text_told (Err (Depth node)) h told = tt
-  text_told (Err (Axis node)) h told = tt
-  text_told (Err Rest) h told = tt
+  pub text_reported : (result : Answer Summary) → ChecksSource limit (λ (s : List ℕ). Some s) (λ _. 0) old new result → IfErr result TellsSmallNumbers → IfErr result IsReportedOfFile
+  text_reported (Ok leaves) h reported = tt
+  text_reported (Err Fault) h reported = still h
+  text_reported (Err TooLong) h reported = not_more limit old (Some old) (Some new) refl h small
+  text_reported (Err Memory) h reported = tt
+  text_reported (Err (Text e)) h reported = tt
+  text_reported (Err (Rows e)) h reported = reported
+  text_reported (Err (Missed node miss)) h reported = reported
+  text_reported (Err (Depth node)) h reported = tt
+  text_reported (Err (Axis node)) h reported = tt
+  text_reported (Err Rest) h reported = tt
 
 -- a file that passes is sound
 pub passes : PassingFilesAreSound → (bytes : List ℕ) (result : Result Summary CheckError) → Says (λ s. s) (Answers bytes) result → IfOk result (IsSoundFile bytes)

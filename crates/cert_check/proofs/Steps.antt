@@ -21,16 +21,16 @@ use Rattle.lift_rows.specs.Fault.{IsFirstFault}
 use Rattle.lift_rows.specs.declared.error.RowError.{RowError}
 use Rattle.line_text.specs.Reading.{Cursor}
 use Rattle.line_text.specs.declared.error.TextError.{TextError}
-use Rattle.line_text.specs.Follow.{Follows, Ran, SeesEnd, place, told_fault}
+use Rattle.line_text.specs.Follow.{Follows, Ran, SeesEnd, place, reported_fault}
 use Rattle.line_text.specs.Laws.{AddsUp}
 use Rattle.cert_text.specs.Head.{HeadData, case_at, head_at, version}
 use Rattle.cert_text.specs.Leaf.{node_of}
 use Rattle.cert_text.specs.Nodes.{Node, split, accept, reject, unknown, node_at, node_lines}
 use Rattle.cert_text.specs.declared.node_reader.Node.{Node as Given}
 use Rattle.cert_text.specs.Forms.{IsHead, IsNode}
-use Rattle.cert_text.specs.Laws.{ReadHeadsAreTold, ReadNodesAreTold, told_lines}
+use Rattle.cert_text.specs.Laws.{ReadHeadsAreReported, ReadNodesAreReported, reported_lines}
 use Rattle.cert_check.specs.Answer.{Came, Answer, Then, ReadEnds, HalfEnds, TreeEnds, RestEnds, HeadEnds, FileEnds, rest_of, start, behind, no_leaves, one_accept, one_reject, one_unknown}
-use Rattle.cert_check.specs.Shown.{Checks, IsPlaced, IsSplitTold, IsUnderWay, HalvesArePlaced, Misses, came_of, failure_of, told_line}
+use Rattle.cert_check.specs.Shown.{Checks, IsPlaced, IsSplitReported, IsInProgress, HalvesArePlaced, Misses, came_of, failure_of, reported_line}
 use Rattle.cert_check.specs.declared.walk.Walk.{Walk}
 use Rattle.cert_check.specs.declared.summary.Summary.{Summary}
 use Rattle.cert_check.specs.declared.error.CheckError.{CheckError}
@@ -49,49 +49,49 @@ some_line (Some v) init (reject u r) = omega arith
 some_line from init unknown = omega arith
 
 -- a line was given for a node
-pub node_given : {S : Type 0} {left : S → Option (List ℕ)} {faults : S → ℕ} → ReadNodesAreTold → (h : HeadData) → IsHead h → {a b : LinesData} {s t : S} {node : Given} → Follows left faults node_of (node_at h) a b s t (Ok node) → a.given < b.given
-node_given told h head {a} {b} {node = node} f =
-    let t = told h (node_of node) (a.given + 1) (b.given + 1) (a.held ++ (f.bytes ++ [])) (b.held ++ []) head (f.agrees [] (λ _. refl)) in
+pub node_given : {S : Type 0} {left : S → Option (List ℕ)} {faults : S → ℕ} → ReadNodesAreReported → (h : HeadData) → IsHead h → {a b : LinesData} {s t : S} {node : Given} → Follows left faults node_of (node_at h) a b s t (Ok node) → a.given < b.given
+node_given reported h head {a} {b} {node = node} f =
+    let t = reported h (node_of node) (a.given + 1) (b.given + 1) (a.held ++ (f.bytes ++ [])) (b.held ++ []) head (f.agrees [] (λ _. refl)) in
     let some = some_line h.from h.asked.model.init (node_of node) in
     let is = t.2 in
     omega (arith, some, is)
 
 -- a node that was read is one of the report
-pub node_fits : {S : Type 0} {left : S → Option (List ℕ)} {faults : S → ℕ} → ReadNodesAreTold → (h : HeadData) → IsHead h → (node : Node) {a b : LinesData} {s t : S} {given : Given} → node_of given ≡ node → Follows left faults node_of (node_at h) a b s t (Ok given) → IsNode h node
-node_fits told h head node {a} {b} {given = given} is f =
-    let t = told h (node_of given) (a.given + 1) (b.given + 1) (a.held ++ (f.bytes ++ [])) (b.held ++ []) head (f.agrees [] (λ _. refl)) in
+pub node_fits : {S : Type 0} {left : S → Option (List ℕ)} {faults : S → ℕ} → ReadNodesAreReported → (h : HeadData) → IsHead h → (node : Node) {a b : LinesData} {s t : S} {given : Given} → node_of given ≡ node → Follows left faults node_of (node_at h) a b s t (Ok given) → IsNode h node
+node_fits reported h head node {a} {b} {given = given} is f =
+    let t = reported h (node_of given) (a.given + 1) (b.given + 1) (a.held ++ (f.bytes ++ [])) (b.held ++ []) head (f.agrees [] (λ _. refl)) in
     subst (λ (n : Node). IsNode h n) is t.0
 
 -- two lines were given for a head
-pub head_given : {S : Type 0} {left : S → Option (List ℕ)} {faults : S → ℕ} → ReadHeadsAreTold → {a b : LinesData} {s t : S} {h : HeadData} → Follows left faults (λ (h : HeadData). h) head_at a b s t (Ok h) → 2 ≤ b.given
-head_given told {a} {b} {h = h} f =
-    let t = told h (a.given + 1) (b.given + 1) (a.held ++ (f.bytes ++ [])) (b.held ++ []) (f.agrees [] (λ _. refl)) in
-    let some : 2 ≤ length (told_lines h) = many h in
+pub head_given : {S : Type 0} {left : S → Option (List ℕ)} {faults : S → ℕ} → ReadHeadsAreReported → {a b : LinesData} {s t : S} {h : HeadData} → Follows left faults (λ (h : HeadData). h) head_at a b s t (Ok h) → 2 ≤ b.given
+head_given reported {a} {b} {h = h} f =
+    let t = reported h (a.given + 1) (b.given + 1) (a.held ++ (f.bytes ++ [])) (b.held ++ []) (f.agrees [] (λ _. refl)) in
+    let some : 2 ≤ length (reported_lines h) = many h in
     let is = t.2 in
     omega (arith, some, is)
   where
-    many : (h : HeadData) → 2 ≤ length (told_lines h)
+    many : (h : HeadData) → 2 ≤ length (reported_lines h)
     many h = omega arith
 
 -- no more lines than bytes were given, so that the number of a node is small
-pub few_given : (w : Walk) (l : LinesData) → IsUnderWay w → w.lines.given < l.given → l.failure ≡ None → l.given + length l.held ≤ l.taken → KeepsLimit l.failure l.limit l.taken → l.limit ≤ 2 ^ 32 → w.node + 1 < 2 ^ 32
-few_given w l way more none counted keeps small =
+pub few_given : (w : Walk) (l : LinesData) → IsInProgress w → w.lines.given < l.given → l.failure ≡ None → l.given + length l.held ≤ l.taken → KeepsLimit l.failure l.limit l.taken → l.limit ≤ 2 ^ 32 → w.node + 1 < 2 ^ 32
+few_given w l progress more none counted keeps small =
     let few : l.taken ≤ l.limit = subst (λ f. KeepsLimit f l.limit l.taken) none keeps in
-    let nodes = way.nodes in
+    let nodes = progress.nodes in
     omega (arith, more, counted, few, small, nodes)
 
 -- so is the number of leaves of each kind
-pub few_met : (w : Walk) → IsUnderWay w → w.node + 1 < 2 ^ 32 → (w.leaves.accept + 1 < 2 ^ 32) × (w.leaves.reject + 1 < 2 ^ 32) × (w.leaves.unknown + 1 < 2 ^ 32)
-few_met w way few = let met = way.leaves in (omega (arith, few, met), omega (arith, few, met), omega (arith, few, met))
+pub few_visited : (w : Walk) → IsInProgress w → w.node + 1 < 2 ^ 32 → (w.leaves.accept + 1 < 2 ^ 32) × (w.leaves.reject + 1 < 2 ^ 32) × (w.leaves.unknown + 1 < 2 ^ 32)
+few_visited w progress few = let visited = progress.leaves in (omega (arith, few, visited), omega (arith, few, visited), omega (arith, few, visited))
 
 -- where the code stands behind a node
-pub way_behind : (w x : Walk) (l : LinesData) (ws : Vec ℤ Global) (leaves : Summary) → IsUnderWay w → w.lines.given < l.given → l.failure ≡ None → x ≡ record { lines = l; node = w.node + 1; leaves = leaves; weights = ws }
-    → leaves.accept + leaves.reject + leaves.unknown ≤ w.leaves.accept + w.leaves.reject + w.leaves.unknown + 1 → IsUnderWay x
-way_behind w x l ws leaves way more none is met =
+pub progress_behind : (w x : Walk) (l : LinesData) (ws : Vec ℤ Global) (leaves : Summary) → IsInProgress w → w.lines.given < l.given → l.failure ≡ None → x ≡ record { lines = l; node = w.node + 1; leaves = leaves; weights = ws }
+    → leaves.accept + leaves.reject + leaves.unknown ≤ w.leaves.accept + w.leaves.reject + w.leaves.unknown + 1 → IsInProgress x
+progress_behind w x l ws leaves progress more none is visited =
     let y : Walk = record { lines = l; node = w.node + 1; leaves = leaves; weights = ws } in
-    let nodes = way.nodes in
-    let counted = way.leaves in
-    subst (λ (x : Walk). IsUnderWay x) (sym is) (record { clean = none; nodes = omega (arith, nodes, more); leaves = omega (arith, counted, met) })
+    let nodes = progress.nodes in
+    let counted = progress.leaves in
+    subst (λ (x : Walk). IsInProgress x) (sym is) (record { clean = none; nodes = omega (arith, nodes, more); leaves = omega (arith, counted, visited) })
 
 -- ---- a node
 
@@ -100,8 +100,8 @@ abbrev pub Whole : HeadData → ℕ → Spans → Walk → List ℕ → Answer C
 Whole h levels spans w later = TreeEnds h levels spans (came_of w later)
 
 -- no node is read
-pub not_read : (h : HeadData) (levels : ℕ) (spans : Spans) (w : Walk) (rest : List ℕ) (f : TextError) → node_at h (place w.lines rest) ≡ Err f → Whole h levels spans w rest (Err (Text (told_fault f)))
-not_read h levels spans w rest f bad = subst (λ r. ReadEnds h levels (HalfEnds h levels) spans (came_of w rest) r (Err (Text (told_fault f)))) (sym bad) refl
+pub not_read : (h : HeadData) (levels : ℕ) (spans : Spans) (w : Walk) (rest : List ℕ) (f : TextError) → node_at h (place w.lines rest) ≡ Err f → Whole h levels spans w rest (Err (Text (reported_fault f)))
+not_read h levels spans w rest f bad = subst (λ r. ReadEnds h levels (HalfEnds h levels) spans (came_of w rest) r (Err (Text (reported_fault f)))) (sym bad) refl
 
 -- a miss is no failure of the lines
 pub missed_calm : (node : ℕ) (IsFirst : Miss → Type 0) (e : CheckError) → Misses node IsFirst e → failure_of {X = Unit {0}} (Err e) ≡ None
@@ -109,12 +109,12 @@ missed_calm node IsFirst e missed = ap (λ (d : CheckError). failure_of {X = Uni
 
 -- nor is a depth
 pub depth_calm : (node : ℕ) (e : CheckError) → e ≡ Depth node → failure_of {X = Unit {0}} (Err e) ≡ None
-depth_calm node e told = ap (λ (d : CheckError). failure_of {X = Unit {0}} (Err d)) told
+depth_calm node e reported = ap (λ (d : CheckError). failure_of {X = Unit {0}} (Err d)) reported
 
 -- nor is what is wrong with a split
-pub split_calm : (live levels : ℕ) (spans : Spans) (node axis : ℕ) (e : CheckError) → IsSplitTold live levels spans node axis e → failure_of {X = Unit {0}} (Err e) ≡ None
-split_calm live zero spans node axis e told = ap (λ (d : CheckError). failure_of {X = Unit {0}} (Err d)) told
-split_calm live (suc levels) spans node axis e told = ap (λ (d : CheckError). failure_of {X = Unit {0}} (Err d)) told.1
+pub split_calm : (live levels : ℕ) (spans : Spans) (node axis : ℕ) (e : CheckError) → IsSplitReported live levels spans node axis e → failure_of {X = Unit {0}} (Err e) ≡ None
+split_calm live zero spans node axis e reported = ap (λ (d : CheckError). failure_of {X = Unit {0}} (Err d)) reported
+split_calm live (suc levels) spans node axis e reported = ap (λ (d : CheckError). failure_of {X = Unit {0}} (Err d)) reported.1
 
 module _ {S : Type 0} {left : S → Option (List ℕ)} {faults : S → ℕ} (adds : AddsUp left faults) (h : HeadData) (levels : ℕ) (spans : Spans) (w : Walk) {l : LinesData} {s t : S} where
   -- a node was read
@@ -180,23 +180,23 @@ unknown_deep h zero spans came c e read some is = absurd (omega (arith, some))
 unknown_deep h (suc levels) spans came c e read some is = by_node h (suc levels) spans came c unknown (Err e) read (ap (λ (d : CheckError). Err d) is)
 
 -- a split that may not stand there
-pub split_told : (h : HeadData) (levels : ℕ) (spans : Spans) (came : Came) (c : Cursor) (axis : ℕ) (k : CaseData) (e : CheckError) → node_at h came.place ≡ Ok (split axis, c) → k ≡ h.asked → IsSplitTold (live k.model) levels spans came.node axis e → TreeEnds h levels spans came (Err e)
-split_told h zero spans came c axis k e read same told = by_node h zero spans came c (split axis) (Err e) read (ap (λ (d : CheckError). Err d) told)
-split_told h (suc levels) spans came c axis k e read same told =
-    let not : IsSplitAxis (live h.asked.model) spans axis → ⊥ = subst (λ (j : CaseData). IsSplitAxis (live j.model) spans axis → ⊥) same told.0 in
-    by_node h (suc levels) spans came c (split axis) (Err e) read (inr (not, ap (λ (d : CheckError). Err d) told.1))
+pub split_reported : (h : HeadData) (levels : ℕ) (spans : Spans) (came : Came) (c : Cursor) (axis : ℕ) (k : CaseData) (e : CheckError) → node_at h came.place ≡ Ok (split axis, c) → k ≡ h.asked → IsSplitReported (live k.model) levels spans came.node axis e → TreeEnds h levels spans came (Err e)
+split_reported h zero spans came c axis k e read same reported = by_node h zero spans came c (split axis) (Err e) read (ap (λ (d : CheckError). Err d) reported)
+split_reported h (suc levels) spans came c axis k e read same reported =
+    let not : IsSplitAxis (live h.asked.model) spans axis → ⊥ = subst (λ (j : CaseData). IsSplitAxis (live j.model) spans axis → ⊥) same reported.0 in
+    by_node h (suc levels) spans came c (split axis) (Err e) read (inr (not, ap (λ (d : CheckError). Err d) reported.1))
 
-pub met_same : (a : Summary) → a.accept + a.reject + a.unknown ≤ a.accept + a.reject + a.unknown + 1
-met_same a = omega arith
+pub visited_same : (a : Summary) → a.accept + a.reject + a.unknown ≤ a.accept + a.reject + a.unknown + 1
+visited_same a = omega arith
 
-pub met_accept : (b a : Summary) → a ≡ one_accept b → a.accept + a.reject + a.unknown ≤ b.accept + b.reject + b.unknown + 1
-met_accept b a e = let x = ap (λ (l : Summary). l.accept) e in let y = ap (λ (l : Summary). l.reject) e in let z = ap (λ (l : Summary). l.unknown) e in omega (arith, x, y, z)
+pub visited_accept : (b a : Summary) → a ≡ one_accept b → a.accept + a.reject + a.unknown ≤ b.accept + b.reject + b.unknown + 1
+visited_accept b a e = let x = ap (λ (l : Summary). l.accept) e in let y = ap (λ (l : Summary). l.reject) e in let z = ap (λ (l : Summary). l.unknown) e in omega (arith, x, y, z)
 
-pub met_reject : (b a : Summary) → a ≡ one_reject b → a.accept + a.reject + a.unknown ≤ b.accept + b.reject + b.unknown + 1
-met_reject b a e = let x = ap (λ (l : Summary). l.accept) e in let y = ap (λ (l : Summary). l.reject) e in let z = ap (λ (l : Summary). l.unknown) e in omega (arith, x, y, z)
+pub visited_reject : (b a : Summary) → a ≡ one_reject b → a.accept + a.reject + a.unknown ≤ b.accept + b.reject + b.unknown + 1
+visited_reject b a e = let x = ap (λ (l : Summary). l.accept) e in let y = ap (λ (l : Summary). l.reject) e in let z = ap (λ (l : Summary). l.unknown) e in omega (arith, x, y, z)
 
-pub met_unknown : (b a : Summary) → a ≡ one_unknown b → a.accept + a.reject + a.unknown ≤ b.accept + b.reject + b.unknown + 1
-met_unknown b a e = let x = ap (λ (l : Summary). l.accept) e in let y = ap (λ (l : Summary). l.reject) e in let z = ap (λ (l : Summary). l.unknown) e in omega (arith, x, y, z)
+pub visited_unknown : (b a : Summary) → a ≡ one_unknown b → a.accept + a.reject + a.unknown ≤ b.accept + b.reject + b.unknown + 1
+visited_unknown b a e = let x = ap (λ (l : Summary). l.accept) e in let y = ap (λ (l : Summary). l.reject) e in let z = ap (λ (l : Summary). l.unknown) e in omega (arith, x, y, z)
 
 -- ---- a split
 
@@ -273,12 +273,12 @@ module _ {S : Type 0} {left : S → Option (List ℕ)} {faults : S → ℕ} {a b
     agrees = λ _ later may. sym (ap (λ (p : Cursor). rest_of p.1 leaves) (d.same later) ∙ some_left (b.held ++ later) leaves (d.rest later may ∙ is));
   }
 
-  by_error : (e : LineError) (bytes : List ℕ) → Ran left faults a b s t bytes (Some e) → Checks left faults a b s t (λ _ x. x) (λ later answer. answer ≡ rest_of (a.held ++ later) leaves) (Err (told_line e))
+  by_error : (e : LineError) (bytes : List ℕ) → Ran left faults a b s t bytes (Some e) → Checks left faults a b s t (λ _ x. x) (λ later answer. answer ≡ rest_of (a.held ++ later) leaves) (Err (reported_line e))
   by_error why.Fault bytes ran = record { bytes = bytes; ran = ran; agrees = λ bad. absurd bad }
   by_error why.TooLong bytes ran = record { bytes = bytes; ran = ran; agrees = λ bad. absurd bad }
 
   -- the source fails
-  pub rest_fails : (e : LineError) (r : Answer Summary) → r ≡ Err (told_line e) → (bytes : List ℕ) × Ran left faults a b s t bytes (Some e) → Checks left faults a b s t (λ _ x. x) (λ later answer. answer ≡ rest_of (a.held ++ later) leaves) r
+  pub rest_fails : (e : LineError) (r : Answer Summary) → r ≡ Err (reported_line e) → (bytes : List ℕ) × Ran left faults a b s t bytes (Some e) → Checks left faults a b s t (λ _ x. x) (λ later answer. answer ≡ rest_of (a.held ++ later) leaves) r
   rest_fails e r same (bytes, ran) = subst (λ (r : Answer Summary). Checks left faults a b s t (λ _ x. x) (λ later answer. answer ≡ rest_of (a.held ++ later) leaves) r) (sym same) (by_error e bytes ran)
 
 -- ---- a head
@@ -295,8 +295,8 @@ pub head_nodes : (h : HeadData) (c : Cursor) (k : CaseData) (answer : Answer Sum
 head_nodes h c k answer same admitted t = inl (subst IsAdmitted same admitted, t)
 
 -- a head that isn't read
-pub head_not_read : (a : LinesData) (later : List ℕ) (f : TextError) → head_at (place a later) ≡ Err f → FileEnds (head_at (place a later)) (Err (Text (told_fault f)))
-head_not_read a later f bad = subst (λ r. FileEnds r (Err (Text (told_fault f)))) (sym bad) refl
+pub head_not_read : (a : LinesData) (later : List ℕ) (f : TextError) → head_at (place a later) ≡ Err f → FileEnds (head_at (place a later)) (Err (Text (reported_fault f)))
+head_not_read a later f bad = subst (λ r. FileEnds r (Err (Text (reported_fault f)))) (sym bad) refl
 
 -- a head that is read
 pub head_read : {S : Type 0} {left : S → Option (List ℕ)} {faults : S → ℕ} → AddsUp left faults → {a b : LinesData} {s t : S} {h : HeadData} → Follows left faults (λ (h : HeadData). h) head_at a b s t (Ok h)

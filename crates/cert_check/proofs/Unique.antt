@@ -13,7 +13,7 @@ use Rattle.line_text.specs.declared.error.TextError.{TextError}
 use Rattle.cert_text.specs.Head.{HeadData, case_at, head_at}
 use Rattle.cert_text.specs.Nodes.{Node, split, accept, reject, unknown, node_at}
 use Rattle.cert_text.specs.Forms.{IsHead}
-use Rattle.cert_text.specs.Laws.{ReadHeadsAreTold}
+use Rattle.cert_text.specs.Laws.{ReadHeadsAreReported}
 use Rattle.cert_check.specs.Answer.{Came, Answer, GoesOn, Then, Ending, AcceptEnds, RejectEnds, UnknownEnds, SplitEnds, NodeEnds, ReadEnds, HalfEnds, TreeEnds, RestEnds, HeadEnds, FileEnds, start, behind}
 use Rattle.cert_check.specs.Laws.{AnswersAreOne}
 use Rattle.cert_check.specs.Shown.{IsPlaced, RootIsPlaced, HalvesArePlaced}
@@ -101,7 +101,7 @@ module _ (accept_one : FirstAcceptMissIsOne) (accept_none : AcceptingMissesNone)
 
   -- ---- the whole
 
-  module _ (fault_one : FirstFaultIsOne) (fault_none : AdmittedHasNoFault) (root : RootIsPlaced) (placed : HalvesArePlaced) (told : ReadHeadsAreTold) where
+  module _ (fault_one : FirstFaultIsOne) (fault_none : AdmittedHasNoFault) (root : RootIsPlaced) (placed : HalvesArePlaced) (reported : ReadHeadsAreReported) where
     heads : (h : HeadData) (c : Cursor) (a b : Answer Summary) → IsHead h → HeadEnds h c a → HeadEnds h c b → a ≡ b
     heads h c a b head (inl p) (inl q) =
         let is : IsCase h.asked = record { asked = head.asked; admitted = p.0 } in
@@ -113,7 +113,7 @@ module _ (accept_one : FirstAcceptMissIsOne) (accept_none : AcceptingMissesNone)
     heads h c a b head (inr p) (inr q) = p.2 ∙ ap (λ e. Err (Rows e)) (fault_one h.asked p.0 q.0 p.1 q.1) ∙ sym q.2
 
     files : (bytes : List ℕ) (r : Result (HeadData × Cursor) TextError) (a b : Answer Summary) → head_at (1, bytes) ≡ r → FileEnds r a → FileEnds r b → a ≡ b
-    files bytes (Ok x) a b e p q = heads x.0 x.1 a b ((told x.0 1 x.1.0 bytes x.1.1 e).0) p q
+    files bytes (Ok x) a b e p q = heads x.0 x.1 a b ((reported x.0 1 x.1.0 bytes x.1.1 e).0) p q
     files bytes (Err e) a b is p q = p ∙ sym q
 
     pub answers_one : AnswersAreOne

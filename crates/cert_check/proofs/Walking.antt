@@ -9,10 +9,10 @@ use Rattle.line_text.specs.declared.error.TextError.{TextError}
 use Rattle.line_text.specs.declared.error.FileError.{FileError}
 use Rattle.line_text.specs.declared.error.FileError.TheVariants as file
 use Rattle.line_text.specs.Reading.{Reader}
-use Rattle.line_text.specs.Follow.{Follows, Ran, Went, place, told_fault}
+use Rattle.line_text.specs.Follow.{Follows, Ran, Went, place, reported_fault}
 use Rattle.line_text.specs.Laws.{AddsUp}
 use Rattle.cert_check.specs.Answer.{Answer}
-use Rattle.cert_check.specs.Shown.{Agrees, Checks, IsOfFile, failure_of, leaves_in, told, told_as}
+use Rattle.cert_check.specs.Shown.{Agrees, Checks, IsOfFile, failure_of, leaves_in, reported, reported_as}
 use Rattle.cert_check.specs.declared.file.Checked.{Checked}
 use Rattle.cert_check.specs.declared.summary.Summary.{Summary}
 use Rattle.cert_check.specs.declared.error.CheckError.{CheckError}
@@ -84,31 +84,31 @@ wanting adds view r same none so = faulted adds view Memory r same none refl so 
 -- ---- a part that isn't read
 
 module _ {S X Y Z W : Type 0} {left : S → Option (List ℕ)} {faults : S → ℕ} (adds : AddsUp left faults) {whole rest : List ℕ → Answer Y → Type 0} {a b c : LinesData} {s t u : S} {see : Z → W} {read : Reader W} (view : List ℕ → X → Y)
-    (so : SoFar left faults whole rest a b s t) (fails : (l : List ℕ) (f : TextError) → read (place b l) ≡ Err f → rest l (Err (Text (told_fault f)))) where
+    (so : SoFar left faults whole rest a b s t) (fails : (l : List ℕ) (f : TextError) → read (place b l) ≡ Err f → rest l (Err (Text (reported_fault f)))) where
   as_text : (e : TextError) → e.cause ≢ cause.Memory → Follows left faults see read b c t u (Err (file.Text e)) → Checks left faults a c s u view whole (Err (Text e))
   as_text e some f = tail adds (Err (Text e)) so (record {
     bytes = f.bytes;
     ran = f.ran;
-    agrees = λ _ later may. let told = f.agrees some later may in subst (λ (d : TextError). rest (f.bytes ++ later) (Err (Text d))) (sym told.2) (fails (f.bytes ++ later) told.0 told.1);
+    agrees = λ _ later may. let reported = f.agrees some later may in subst (λ (d : TextError). rest (f.bytes ++ later) (Err (Text d))) (sym reported.2) (fails (f.bytes ++ later) reported.0 reported.1);
   })
 
   as_wanting : (e : TextError) → Follows left faults see read b c t u (Err (file.Text e)) → Checks left faults a c s u view whole (Err Memory)
   as_wanting e f = tail adds (Err Memory) so (record { bytes = f.bytes; ran = f.ran; agrees = λ bad. absurd bad })
 
-  by_cause : (why : TextCause) (e : TextError) → e.cause ≡ why → Follows left faults see read b c t u (Err (file.Text e)) → Checks left faults a c s u view whole (Err (told_as why e))
+  by_cause : (why : TextCause) (e : TextError) → e.cause ≡ why → Follows left faults see read b c t u (Err (file.Text e)) → Checks left faults a c s u view whole (Err (reported_as why e))
   by_cause cause.Memory e is f = as_wanting e f
   by_cause cause.Syntax e is f = as_text e (λ bad. absurd (let two : cause.Syntax ≡ cause.Memory = sym is ∙ bad in cc)) f
   by_cause cause.Version e is f = as_text e (λ bad. absurd (let two : cause.Version ≡ cause.Memory = sym is ∙ bad in cc)) f
   by_cause cause.Limit e is f = as_text e (λ bad. absurd (let two : cause.Limit ≡ cause.Memory = sym is ∙ bad in cc)) f
   by_cause cause.Truncated e is f = as_text e (λ bad. absurd (let two : cause.Truncated ≡ cause.Memory = sym is ∙ bad in cc)) f
 
-  by_error : (e : FileError) → Follows left faults see read b c t u (Err e) → Checks left faults a c s u view whole (Err (told e))
+  by_error : (e : FileError) → Follows left faults see read b c t u (Err e) → Checks left faults a c s u view whole (Err (reported e))
   by_error (file.Text e) f = by_cause e.cause e refl f
-  by_error file.Fault f = tail adds (Err (told file.Fault)) so (record { bytes = f.bytes; ran = f.ran; agrees = λ bad. absurd bad })
-  by_error file.TooLong f = tail adds (Err (told file.TooLong)) so (record { bytes = f.bytes; ran = f.ran; agrees = λ bad. absurd bad })
+  by_error file.Fault f = tail adds (Err (reported file.Fault)) so (record { bytes = f.bytes; ran = f.ran; agrees = λ bad. absurd bad })
+  by_error file.TooLong f = tail adds (Err (reported file.TooLong)) so (record { bytes = f.bytes; ran = f.ran; agrees = λ bad. absurd bad })
 
   -- its error is what is answered
-  pub unread : (e : FileError) (r : Result X CheckError) → r ≡ Err (told e) → Follows left faults see read b c t u (Err e) → Checks left faults a c s u view whole r
+  pub unread : (e : FileError) (r : Result X CheckError) → r ≡ Err (reported e) → Follows left faults see read b c t u (Err e) → Checks left faults a c s u view whole r
   unread e r same f = subst (λ (r : Result X CheckError). Checks left faults a c s u view whole r) (sym same) (by_error e f)
 
 -- ---- a part that is checked

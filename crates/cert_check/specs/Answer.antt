@@ -14,7 +14,7 @@ use Rattle.lift_cert.specs.RejectMiss.{IsFirstRejectMiss}
 use Rattle.lift_cert.specs.declared.miss.Miss.{Miss}
 use Rattle.line_text.specs.Reading.{Cursor}
 use Rattle.line_text.specs.declared.error.TextError.{TextError}
-use Rattle.line_text.specs.Follow.{told_fault}
+use Rattle.line_text.specs.Follow.{reported_fault}
 use Rattle.cert_text.specs.Head.{HeadData, case_at, head_at, version}
 use Rattle.cert_text.specs.Nodes.{Node, split, accept, reject, unknown, node_at}
 use Rattle.cert_check.specs.declared.summary.Summary.{Summary}
@@ -104,7 +104,7 @@ NodeEnds h levels halves spans came unknown c answer = UnknownEnds levels came c
 -- a node that is due, as it is read
 abbrev pub ReadEnds : HeadData → ℕ → Ending → Spans → Came → Result (Node × Cursor) TextError → Answer Came → Type 0
 ReadEnds h levels halves spans came (Ok x) answer = NodeEnds h levels halves spans came x.0 x.1 answer
-ReadEnds h levels halves spans came (Err e) answer = answer ≡ Err (Text (told_fault e))
+ReadEnds h levels halves spans came (Err e) answer = answer ≡ Err (Text (reported_fault e))
 
 -- ---- the nodes of a rectangle, and the whole
 
@@ -139,7 +139,7 @@ HeadEnds h c answer =
 -- a head, as it is read
 abbrev pub FileEnds : Result (HeadData × Cursor) TextError → Answer Summary → Type 0
 FileEnds (Ok x) answer = HeadEnds x.0 x.1 answer
-FileEnds (Err e) answer = answer ≡ Err (Text (told_fault e))
+FileEnds (Err e) answer = answer ≡ Err (Text (reported_fault e))
 
 -- what is answered to a text
 abbrev pub Answers : List ℕ → Answer Summary → Type 0

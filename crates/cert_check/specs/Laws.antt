@@ -5,7 +5,7 @@ use Rattle.lift_grid.specs.Tree.Tree.{split, accept, reject, unknown}
 use Rattle.corner_lift.specs.Case.{IsAdmitted}
 use Rattle.lift_cert.specs.RejectMiss.{most_height}
 use Rattle.line_text.specs.declared.error.TextCause.TheVariants.{Truncated}
-use Rattle.line_text.specs.Follow.{told_fault}
+use Rattle.line_text.specs.Follow.{reported_fault}
 use Rattle.cert_text.specs.Head.{HeadData}
 use Rattle.cert_text.specs.Forms.{IsHead, IsPrecision}
 use Rattle.cert_text.specs.Migrated.{MigratesTo}
@@ -33,7 +33,7 @@ PassingFilesAreSound = (bytes : List ℕ) (leaves : Summary) → Answers bytes (
 -- every proper prefix of a sound file is refused as truncated, at the line that was due
 abbrev pub PrefixesAreRefused : Type 0
 PrefixesAreRefused = (front back : List ℕ) (leaves : Summary) → IsSoundFile (front ++ back) leaves → 0 < length back
-    → Answers front (Err (Text (told_fault (record { line = 1 + feed_count front; cause = Truncated }))))
+    → Answers front (Err (Text (reported_fault (record { line = 1 + feed_count front; cause = Truncated }))))
 
 -- ---- sound files
 
@@ -42,15 +42,15 @@ abbrev pub SoundReportsHold : Type 0
 SoundReportsHold = (h : HeadData) (t : Tree) → IsSound h t → ReportHolds h t
 
 -- what a report can tell of a tree beside its certificates: decided leaves have a precision of its range, and no rank is above the greatest that may be told
-abbrev pub CanBeTold : HeadData → Tree → Type 0
-CanBeTold h (accept u x) = IsPrecision h u
-CanBeTold h (reject u r) = IsPrecision h u × (r.k ≤ most_height)
-CanBeTold h (split axis lower upper) = CanBeTold h lower × CanBeTold h upper
-CanBeTold h unknown = ⊤
+abbrev pub CanBeReported : HeadData → Tree → Type 0
+CanBeReported h (accept u x) = IsPrecision h u
+CanBeReported h (reject u r) = IsPrecision h u × (r.k ≤ most_height)
+CanBeReported h (split axis lower upper) = CanBeReported h lower × CanBeReported h upper
+CanBeReported h unknown = ⊤
 
 -- a sound tree of an admitted head makes a sound report
 abbrev pub SoundTreesAreReports : Type 0
-SoundTreesAreReports = (h : HeadData) (t : Tree) → IsHead h → IsAdmitted h.asked → IsSoundTree h.asked h.bound h.asked.root 0 t → CanBeTold h t → IsSound h t
+SoundTreesAreReports = (h : HeadData) (t : Tree) → IsHead h → IsAdmitted h.asked → IsSoundTree h.asked h.bound h.asked.root 0 t → CanBeReported h t → IsSound h t
 
 -- a sound file of the first version has one of the second that tells the same report, with the same leaves
 abbrev pub SoundFilesMigrate : Type 0

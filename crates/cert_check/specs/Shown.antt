@@ -29,27 +29,27 @@ use Rattle.cert_check.specs.declared.error.CheckError.TheVariants.{Text, Rows, M
 -- ---- values of the code
 
 -- a text's fault with that cause, as it is told
-abbrev pub told_as : TextCause → TextError → CheckError
-told_as cause.Memory e = Memory
-told_as _ e = Text e
+abbrev pub reported_as : TextCause → TextError → CheckError
+reported_as cause.Memory e = Memory
+reported_as _ e = Text e
 
 -- why no more is read of a report, as it is told
-abbrev pub told : FileError → CheckError
-told (file.Text e) = told_as e.cause e
-told file.Fault = Fault
-told file.TooLong = TooLong
+abbrev pub reported : FileError → CheckError
+reported (file.Text e) = reported_as e.cause e
+reported file.Fault = Fault
+reported file.TooLong = TooLong
 
 -- why no more lines are read, as it is told
-abbrev pub told_line : LineError → CheckError
-told_line why.Fault = Fault
-told_line why.TooLong = TooLong
+abbrev pub reported_line : LineError → CheckError
+reported_line why.Fault = Fault
+reported_line why.TooLong = TooLong
 
 -- how far the code has come, where these bytes follow those that are held
 abbrev pub came_of : Walk → List ℕ → Came
 came_of w later = record { node = w.node; place = place w.lines later; leaves = w.leaves }
 
 -- the lines didn't fail; a line was given for each node, and two before them, and no leaf was counted twice
-pub record IsUnderWay (w : Walk) : Type 0 where
+pub record IsInProgress (w : Walk) : Type 0 where
   pub clean : w.lines.failure ≡ None
   pub nodes : w.node + 2 ≤ w.lines.given
   pub leaves : w.leaves.accept + w.leaves.reject + w.leaves.unknown ≤ w.node
@@ -100,17 +100,17 @@ abbrev pub Misses : ℕ → (Miss → Type 0) → CheckError → Type 0
 Misses node IsFirst e = (miss : Miss) × IsFirst miss × (e ≡ Missed node miss)
 
 -- what is told of a split that may not stand there: that no halving is left, or else the axis
-abbrev pub IsSplitTold : ℕ → ℕ → Spans → ℕ → ℕ → CheckError → Type 0
-IsSplitTold live zero spans node axis e = e ≡ Depth node
-IsSplitTold live (suc levels) spans node axis e = (IsSplitAxis live spans axis → ⊥) × (e ≡ Axis node)
+abbrev pub IsSplitReported : ℕ → ℕ → Spans → ℕ → ℕ → CheckError → Type 0
+IsSplitReported live zero spans node axis e = e ≡ Depth node
+IsSplitReported live (suc levels) spans node axis e = (IsSplitAxis live spans axis → ⊥) × (e ≡ Axis node)
 
 -- what is told of a file: its numbers are small, and it is no fault of the source
-abbrev pub IsToldOfFile : CheckError → Type 0
-IsToldOfFile (Rows e) = HasSmallNumber e
-IsToldOfFile (Missed node miss) = HasSmallNumbers miss
-IsToldOfFile Fault = ⊥
-IsToldOfFile TooLong = ⊥
-IsToldOfFile _ = ⊤
+abbrev pub IsReportedOfFile : CheckError → Type 0
+IsReportedOfFile (Rows e) = HasSmallNumber e
+IsReportedOfFile (Missed node miss) = HasSmallNumbers miss
+IsReportedOfFile Fault = ⊥
+IsReportedOfFile TooLong = ⊥
+IsReportedOfFile _ = ⊤
 
 -- what a rejecting leaf tells, as a certificate
 abbrev pub reject_of : Rejecting → RejectData

@@ -4,7 +4,7 @@ use Rattle.std.specs.declared.option.Option.{Option}
 use Rattle.lift_base.specs.Outside.{TakenHas, Rose}
 use Rattle.lift_rows.specs.Fault.{HasSmallNumber}
 use Rattle.lift_cert.specs.Miss.{HasSmallNumbers}
-use Rattle.line_text.specs.Met.{WasRead, WasMet}
+use Rattle.line_text.specs.Found.{WasRead, WasFound}
 use Rattle.cert_check.specs.Trust.{IsTrusted}
 use Rattle.cert_check.specs.Answer.{Answers}
 use Rattle.cert_check.specs.declared.summary.Summary.{Summary}
@@ -25,7 +25,7 @@ ChecksSource limit left faults old new (Ok leaves) = WasRead limit (λ bytes. Is
 ChecksSource limit left faults old new (Err Fault) = Rose (faults old) (faults new)
 ChecksSource limit left faults old new (Err TooLong) = TakenHas (λ bytes. limit < length bytes) (left old) (left new)
 ChecksSource limit left faults old new (Err Memory) = ⊤
-ChecksSource limit left faults old new (Err why) = WasMet limit (λ bytes. Answers bytes (Err why)) (left old) (left new)
+ChecksSource limit left faults old new (Err why) = WasFound limit (λ bytes. Answers bytes (Err why)) (left old) (left new)
 
 -- more bytes than the limit were taken at TooLong, and only there
 abbrev pub KeepsLimit : ℕ → Result Summary CheckError → Option (List ℕ) → Option (List ℕ) → Type 0
@@ -42,8 +42,8 @@ CountsFault (Err Fault) before now = Rose before now
 CountsFault _ before now = now ≡ before
 
 -- to bytes that are told, few enough, what may be answered is answered where no fault is counted, unless memory runs out
-abbrev pub AnswersTold : ℕ → Option (List ℕ) → ℕ → ℕ → Result Summary CheckError → Type 0
-AnswersTold limit old before now result = (bytes : List ℕ) (answer : Result Summary CheckError) → old ≡ Some bytes → Answers bytes answer → length bytes ≤ limit → NoFault before now
+abbrev pub AnswersReported : ℕ → Option (List ℕ) → ℕ → ℕ → Result Summary CheckError → Type 0
+AnswersReported limit old before now result = (bytes : List ℕ) (answer : Result Summary CheckError) → old ≡ Some bytes → Answers bytes answer → length bytes ≤ limit → NoFault before now
     → (result ≡ answer) ⊎ (result ≡ Err Memory)
 
 -- the numbers that are told are above -2^126 and below 2^126

@@ -1,7 +1,7 @@
 // Checks what a source gives.
 ghost use Rattle.std.specs.Prelude.{◌≡◌, ◌≤◌, IfErr};
 ghost use Rattle.cert_check.specs.Shown.{leaves_in};
-ghost use Rattle.cert_check.specs.Source.{AnswersTold, ChecksSource, CountsFault, KeepsLimit, TellsSmallNumbers, report_limit};
+ghost use Rattle.cert_check.specs.Source.{AnswersReported, ChecksSource, CountsFault, KeepsLimit, TellsSmallNumbers, report_limit};
 
 use crate::error::CheckError;
 use crate::file::{Checked, check_file};
@@ -36,7 +36,7 @@ pub fn check_within<S: Source>(
     ensures limit { KeepsLimit limit result (S.left src.old) (S.left src.new) }
     ensures faults { CountsFault result (S.faults src.old) (S.faults src.new) }
     ensures numbers { IfErr result TellsSmallNumbers }
-    ensures told { AnswersTold limit (S.left src.old) (S.faults src.old) (S.faults src.new) result }
+    ensures reported { AnswersReported limit (S.left src.old) (S.faults src.old) (S.faults src.new) result }
 {
     sound_files_pass();
     sound_reports_hold();
@@ -62,7 +62,7 @@ pub fn check<S: Source>(alloc: Global, src: &mut S) -> Result<Summary, CheckErro
     ensures limit { KeepsLimit report_limit result (S.left src.old) (S.left src.new) }
     ensures faults { CountsFault result (S.faults src.old) (S.faults src.new) }
     ensures numbers { IfErr result TellsSmallNumbers }
-    ensures told { AnswersTold report_limit (S.left src.old) (S.faults src.old) (S.faults src.new) result }
+    ensures reported { AnswersReported report_limit (S.left src.old) (S.faults src.old) (S.faults src.new) result }
 {
     check_within(alloc, src, REPORT_LIMIT)
 }

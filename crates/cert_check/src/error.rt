@@ -1,6 +1,6 @@
 // Why a file isn't sound, or wasn't checked.
 ghost use Rattle.std.specs.Prelude.{◌≡◌};
-ghost use Rattle.cert_check.specs.Shown.{told, told_line};
+ghost use Rattle.cert_check.specs.Shown.{reported, reported_line};
 ghost use Rattle.cert_check.specs.declared.error.CheckError.TheVariants.{Memory, Rows};
 
 use cert_text::{FileError, TextCause, TextError};
@@ -34,7 +34,7 @@ pub enum CheckError {
 }
 
 impl From<FileError> for CheckError {
-    ghost from_gives = { λ x e. e ≡ told x };
+    ghost from_gives = { λ x e. e ≡ reported x };
 
     fn from(error: FileError) -> Self {
         match error {
@@ -65,7 +65,7 @@ impl From<AllocError> for CheckError {
 }
 
 impl From<LineError> for CheckError {
-    ghost from_gives = { λ x e. e ≡ told_line x };
+    ghost from_gives = { λ x e. e ≡ reported_line x };
 
     fn from(error: LineError) -> Self {
         match error {

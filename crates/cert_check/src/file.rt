@@ -30,7 +30,7 @@ fn check_rest<S: Source>(
     ensures end { Checks S.left S.faults lines.old lines.new src.old src.new (λ _ s. s)
         (λ later answer. answer ≡ rest_of (lines.old.held ++ later) leaves) result }
     ensures ended { IfOk result (λ _. IsTrue lines.new.ended) }
-    ensures told { IfErr result TellsSmallNumbers }
+    ensures reported { IfErr result TellsSmallNumbers }
 {
     let none = is_end(lines, src)?;
     if none {
@@ -56,7 +56,7 @@ fn check_nodes<S: Source>(
         (TreeEnds report.now.head.now (greatest_depth report.now.head.now.asked) report.now.head.now.asked.root
         (start report.now.head.now (place walk.old.lines later))) RestEnds) result }
     ensures ended { IfOk result (λ _. IsTrue walk.new.lines.ended) }
-    ensures told { IfErr result TellsSmallNumbers }
+    ensures reported { IfErr result TellsSmallNumbers }
 {
     rectangles_are_placed();
     calls_add_up::<S>();
@@ -81,7 +81,7 @@ fn check_head<S: Source>(
     ensures end { Checks S.left S.faults walk.old.lines walk.new.lines src.old src.new (λ _ s. s)
         (λ later. HeadEnds head.now (place walk.old.lines later)) result }
     ensures ended { IfOk result (λ _. IsTrue walk.new.lines.ended) }
-    ensures told { IfErr result TellsSmallNumbers }
+    ensures reported { IfErr result TellsSmallNumbers }
 {
     calls_add_up::<S>();
     let _ = head.w();
@@ -119,7 +119,7 @@ pub(crate) fn check_file<S: Source>(
         (λ later. FileEnds (head_at (place walk.old.lines later))) result }
     ensures head { IfOk result (λ x. WasHeadRead S.left S.faults walk.old.lines src.old x.head x.head_lines) }
     ensures ended { IfOk result (λ _. IsTrue walk.new.lines.ended) }
-    ensures told { IfErr result TellsSmallNumbers }
+    ensures reported { IfErr result TellsSmallNumbers }
 {
     calls_add_up::<S>();
     heads_are_read();

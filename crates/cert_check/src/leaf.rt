@@ -10,7 +10,7 @@ ghost use Rattle.lift_cert.specs.Certificate.{IsAccepting, IsRejecting};
 ghost use Rattle.lift_cert.specs.Miss.{IsFirstAcceptMiss};
 ghost use Rattle.lift_cert.specs.RejectMiss.{HasRejectForm, IsFirstRejectMiss};
 ghost use Rattle.cert_check.specs.Source.{TellsSmallNumbers};
-ghost use Rattle.cert_check.specs.Shown.{IsSplitTold, Misses, reject_of};
+ghost use Rattle.cert_check.specs.Shown.{IsSplitReported, Misses, reject_of};
 
 use crate::error::CheckError;
 use corner_lift::{Case, fill, live_parameters_have_spans};
@@ -27,7 +27,7 @@ pub(crate) struct Asked<'a> {
     pub bound: Bound,
 }
 
-/// What a rejecting leaf tells: the number, the pick and the rank of each state, and the rate.
+/// What a rejecting leaf tells: the number, the chosen row and the rank of each state, and the rate.
 #[derive(Drop)]
 pub(crate) struct Rejecting<'a> {
     pub y: &'a [i64],
@@ -68,7 +68,7 @@ impl Asked<'_> {
         ensures test { MatchResult result
             (λ _. IsAccepting self.now.case (spans_of sides.now) self.now.bound x.now)
             (Misses node (IsFirstAcceptMiss self.now.case (spans_of sides.now) self.now.bound x.now)) }
-        ensures told { IfErr result TellsSmallNumbers }
+        ensures reported { IfErr result TellsSmallNumbers }
     {
         if self.accepts(sides, weights, x) {
             return Ok(());
@@ -109,7 +109,7 @@ impl Asked<'_> {
         ensures test { MatchResult result
             (λ _. IsRejecting self.now.case (spans_of sides.now) self.now.bound (reject_of leaf.now))
             (Misses node (IsFirstRejectMiss self.now.case (spans_of sides.now) self.now.bound (reject_of leaf.now))) }
-        ensures told { IfErr result TellsSmallNumbers }
+        ensures reported { IfErr result TellsSmallNumbers }
     {
         if self.rejects(sides, weights, leaf) {
             return Ok(());
@@ -158,7 +158,7 @@ pub(crate) fn test_split(
     requires { AreSidesInside case.now.root sides.now }
     ensures { MatchResult result
         (λ _. (0 < levels) × IsSplitAxis (live case.now.model) (spans_of sides.now) axis)
-        (IsSplitTold (live case.now.model) levels (spans_of sides.now) node axis) }
+        (IsSplitReported (live case.now.model) levels (spans_of sides.now) node axis) }
 {
     if levels == 0 {
         return Err(CheckError::Depth { node });

@@ -1,4 +1,5 @@
-//! Checks a report by itself: whether its rows are admitted over its region, and its certificates hold.
+//! Checks a report by itself: whether its rows are admitted over its region (well defined on it), and its certificates
+//! hold. A certificate checker in the field's sense: nothing is believed of who wrote the report.
 #![tactic(auto)]
 
 mod checking;

@@ -8,7 +8,7 @@ ghost use Rattle.corner_lift.specs.Case.{IsCase};
 ghost use Rattle.cert_text.specs.Head.{case_at};
 ghost use Rattle.cert_check.specs.Answer.{TreeEnds};
 ghost use Rattle.cert_check.specs.Source.{TellsSmallNumbers};
-ghost use Rattle.cert_check.specs.Shown.{Checks, IsPlaced, IsUnderWay, came_of};
+ghost use Rattle.cert_check.specs.Shown.{Checks, IsPlaced, IsInProgress, came_of};
 
 use crate::error::CheckError;
 use crate::laws::rectangles_are_placed;
@@ -72,12 +72,12 @@ pub(crate) fn check_tree<S: Source>(
     requires weights { length walk.old.weights.items ≡ report.now.links.now.weights }
     requires placed { IsPlaced report.now.case.now levels (spans_of sides.old) }
     requires paired { sides_of (spans_of sides.old) ≡ sides.old }
-    requires way { IsUnderWay walk.old }
+    requires progress { IsInProgress walk.old }
     ensures end { Checks S.left S.faults walk.old.lines walk.new.lines src.old src.new (λ later _. came_of walk.new later)
         (λ later. TreeEnds report.now.head.now levels (spans_of sides.old) (came_of walk.old later)) result }
     ensures weights { IfOk result (λ _. length walk.new.weights.items ≡ length walk.old.weights.items) }
-    ensures way { IfOk result (λ _. IsUnderWay walk.new) }
-    ensures told { IfErr result TellsSmallNumbers }
+    ensures progress { IfOk result (λ _. IsInProgress walk.new) }
+    ensures reported { IfErr result TellsSmallNumbers }
 {
     rectangles_are_placed();
     nodes_are_read();

@@ -4,7 +4,7 @@ ghost use Rattle.cert_text.specs.Cut.{CutsHead};
 ghost use Rattle.cert_check.specs.Answer.{Answers};
 ghost use Rattle.cert_check.specs.Sound.{IsSoundFile};
 ghost use Rattle.cert_check.specs.Source.{report_limit};
-ghost use Rattle.cert_check.specs.Shown.{Says, IsToldOfFile};
+ghost use Rattle.cert_check.specs.Shown.{Says, IsReportedOfFile};
 
 use crate::checking::check_within;
 use crate::error::CheckError;
@@ -22,7 +22,7 @@ pub fn check_text(alloc: Global, text: &[u8]) -> Result<Summary, CheckError>
     requires { length text.now ≤ report_limit }
     ensures sound { IfOk result (IsSoundFile text.now) }
     ensures answer { Says (λ s. s) (Answers text.now) result }
-    ensures told { IfErr result IsToldOfFile }
+    ensures reported { IfErr result IsReportedOfFile }
 {
     sound_files_pass();
     check_within(alloc, &mut TextSource::new(text), text.len() as u64)
@@ -48,7 +48,7 @@ pub fn check_parts(alloc: Global, text: &[u8]) -> Result<SoundText<'_>, CheckErr
     ensures sound { IfOk result (λ x. IsSoundFile text.now x.leaves) }
     ensures cut { IfOk result (λ x. CutsHead text.now x.head x.top.now x.nodes.now) }
     ensures answer { Says (λ x. x.leaves) (Answers text.now) result }
-    ensures told { IfErr result IsToldOfFile }
+    ensures reported { IfErr result IsReportedOfFile }
 {
     sound_files_pass();
     sound_reports_hold();

@@ -54,9 +54,9 @@ version_small : (z : ℤ) (k : Bool) → version_is z k → IsSmall z
 version_small z true is = subst IsSmall (sym is) (omega arith)
 version_small z false is = subst IsSmall (sym is) (omega arith)
 
-version_told : (ws : Words) (z : ℤ) (k : Bool) → ws ≡ numbers_words (codes "plift") (z ∷ []) → version_is z k → ws ≡ version_words k
-version_told ws z true is k = is ∙ ap (λ y. numbers_words (codes "plift") (y ∷ [])) k ∙ ap (λ t. codes "plift" ∷ t ∷ []) (decimal_digit 2 (omega arith))
-version_told ws z false is k = is ∙ ap (λ y. numbers_words (codes "plift") (y ∷ [])) k ∙ ap (λ t. codes "plift" ∷ t ∷ []) (decimal_digit 1 (omega arith))
+version_reported : (ws : Words) (z : ℤ) (k : Bool) → ws ≡ numbers_words (codes "plift") (z ∷ []) → version_is z k → ws ≡ version_words k
+version_reported ws z true is k = is ∙ ap (λ y. numbers_words (codes "plift") (y ∷ [])) k ∙ ap (λ t. codes "plift" ∷ t ∷ []) (decimal_digit 2 (omega arith))
+version_reported ws z false is k = is ∙ ap (λ y. numbers_words (codes "plift") (y ∷ [])) k ∙ ap (λ t. codes "plift" ∷ t ∷ []) (decimal_digit 1 (omega arith))
 
 version_again : (ws : Words) (k : Bool) → ws ≡ version_words k → (z : ℤ) × (ws ≡ numbers_words (codes "plift") (z ∷ [])) × version_is z k
 version_again ws true is = (pos 2, is ∙ ap (λ t. codes "plift" ∷ t ∷ []) (sym (decimal_digit 2 (omega arith))), refl)
@@ -65,7 +65,7 @@ version_again ws false is = (pos 1, is ∙ ap (λ t. codes "plift" ∷ t ∷ [])
 pub reads_version : (ws : Words) → Reads (λ second. ws ≡ version_words second) (version_of ws)
 reads_version ws =
     reads_so (reads_one (codes "plift") ws version_in (λ z k q. version_small z k q) (λ z. version_by z (int_eq z (pos 1)) (int_eq z (pos 2)) (Decides-int_eq z (pos 1)) (Decides-int_eq z (pos 2)))) (λ second. ws ≡ version_words second)
-    (λ second (z, is, one). version_told ws z second is one)
+    (λ second (z, is, one). version_reported ws z second is one)
     (λ second is. version_again ws second is)
 
 kind_by : (w : List ℕ) (a b : Bool) → Decides a (w ≡ codes "dtmc") → Decides b (w ≡ codes "mdp") → Reads (λ kind. w ≡ kind_name kind) (cond a (Ok Dtmc) (cond b (Ok Mdp) (Err Syntax)))

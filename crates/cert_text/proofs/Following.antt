@@ -14,7 +14,7 @@ use Rattle.line_text.specs.Words.{words}
 use Rattle.line_text.specs.Parts.{Words, Read}
 use Rattle.line_text.specs.Reading.{◌>>=◌, Cursor, Reader, due, line_at}
 use Rattle.line_text.specs.Shown.{Says}
-use Rattle.line_text.specs.Follow.{Agrees, Due, Follows, IsDue, Ran, Takes, Went, failure_of, place, told_fault}
+use Rattle.line_text.specs.Follow.{Agrees, Due, Follows, IsDue, Ran, Takes, Went, failure_of, place, reported_fault}
 use Rattle.line_text.specs.Laws.{AddsUp}
 
 -- an error that is handed on
@@ -82,7 +82,7 @@ tail {S} {X} {W} {left} {faults} adds {whole} {rest} {a} {b} {c} {s} {t} {u} {lo
 
     agree : ((later : List ℕ) → MayFollow c later → MayFollow b (f.bytes ++ later)) → (r : Result X FileError) → Agrees look rest b c f.bytes r → Agrees look whole a c (so.bytes ++ f.bytes) r
     agree follows (Ok x) now = λ later may. same follows later may ∙ now later may
-    agree follows (Err (file.Text e)) now = λ some later may. let told = now some later may in (told.0, same follows later may ∙ told.1, told.2)
+    agree follows (Err (file.Text e)) now = λ some later may. let reported = now some later may in (reported.0, same follows later may ∙ reported.1, reported.2)
     agree follows (Err file.Fault) now = tt
     agree follows (Err file.TooLong) now = tt
 
@@ -92,7 +92,7 @@ pub as_reader : {S X W : Type 0} {left : S → Option (List ℕ)} {faults : S �
 as_reader {X = X} {rest = rest} {a} {b} {look = look} whole r same f = record { bytes = f.bytes; ran = f.ran; agrees = agree r f.agrees } where
   agree : (r : Result X FileError) → Agrees look rest a b f.bytes r → Agrees look whole a b f.bytes r
   agree (Ok x) now = λ later may. same (place a (f.bytes ++ later)) ∙ now later may
-  agree (Err (file.Text e)) now = λ some later may. let told = now some later may in (told.0, same (place a (f.bytes ++ later)) ∙ told.1, told.2)
+  agree (Err (file.Text e)) now = λ some later may. let reported = now some later may in (reported.0, same (place a (f.bytes ++ later)) ∙ reported.1, reported.2)
   agree (Err file.Fault) now = tt
   agree (Err file.TooLong) now = tt
 
@@ -106,7 +106,7 @@ as_error {S} {X} {Y} {Z} {W} {left} {faults} {a} {b} {s} {t} {view} {look} {read
   by (file.Text e) ran agrees = record {
     bytes = f.bytes;
     ran = ran;
-    agrees = λ some later may. let told = agrees some later may in (told.0, fails (f.bytes ++ later) told.0 told.1, told.2);
+    agrees = λ some later may. let reported = agrees some later may in (reported.0, fails (f.bytes ++ later) reported.0 reported.1, reported.2);
   }
   by file.Fault ran agrees = record { bytes = f.bytes; ran = ran; agrees = tt }
   by file.TooLong ran agrees = record { bytes = f.bytes; ran = ran; agrees = tt }
@@ -142,19 +142,19 @@ known adds rest l s x none is = record { bytes = []; ran = ran_none adds l s non
 
 -- what is left is refused
 pub refused : {S X W : Type 0} {left : S → Option (List ℕ)} {faults : S → ℕ} → AddsUp left faults → {look : X → W} (rest : Reader W) (l : LinesData) (s : S) (e : FileError) (f : TextError) → l.failure ≡ None
-    → ((later : List ℕ) → rest (place l later) ≡ Err f) → e ≡ file.Text (told_fault f) → Follows left faults look rest l l s s (Err e)
-refused {S} {X} {W} {left} {faults} adds {look} rest l s e f none is told = subst (λ (e : FileError). Follows left faults look rest l l s s (Err e)) (sym told) (record { bytes = []; ran = ran_none adds l s none; agrees = λ some later may. (f, is later, refl) })
+    → ((later : List ℕ) → rest (place l later) ≡ Err f) → e ≡ file.Text (reported_fault f) → Follows left faults look rest l l s s (Err e)
+refused {S} {X} {W} {left} {faults} adds {look} rest l s e f none is reported = subst (λ (e : FileError). Follows left faults look rest l l s s (Err e)) (sym reported) (record { bytes = []; ran = ran_none adds l s none; agrees = λ some later may. (f, is later, refl) })
 
 -- memory ran out
 pub wanting : {S X W : Type 0} {left : S → Option (List ℕ)} {faults : S → ℕ} → AddsUp left faults → {look : X → W} (rest : Reader W) (l : LinesData) (s : S) (e : FileError) (n : ℕ) → l.failure ≡ None
-    → e ≡ file.Text (told_fault (record { line = n; cause = Memory })) → Follows left faults look rest l l s s (Err e)
-wanting {S} {X} {W} {left} {faults} adds {look} rest l s e n none told = subst (λ (e : FileError). Follows left faults look rest l l s s (Err e)) (sym told) (record { bytes = []; ran = ran_none adds l s none; agrees = λ some. absurd (some refl) })
+    → e ≡ file.Text (reported_fault (record { line = n; cause = Memory })) → Follows left faults look rest l l s s (Err e)
+wanting {S} {X} {W} {left} {faults} adds {look} rest l s e n none reported = subst (λ (e : FileError). Follows left faults look rest l l s s (Err e)) (sym reported) (record { bytes = []; ran = ran_none adds l s none; agrees = λ some. absurd (some refl) })
 
 -- memory ran out behind what was read
 pub out : {S X W : Type 0} {left : S → Option (List ℕ)} {faults : S → ℕ} → AddsUp left faults → {whole rest : Reader W} {a b c : LinesData} {s t u : S} {look : X → W} (ys : List ℕ) (e : FileError) (n : ℕ)
-    → SoFar left faults whole rest a b s t → Ran left faults b c t u ys None → e ≡ file.Text (told_fault (record { line = n; cause = Memory })) → Follows left faults look whole a c s u (Err e)
-out {S} {X} {W} {left} {faults} adds {whole} {rest} {a} {b} {c} {s} {t} {u} {look} ys e n so r told =
-    subst (λ (e : FileError). Follows left faults look whole a c s u (Err e)) (sym told) (record { bytes = so.bytes ++ ys; ran = (adds.goes a b c s t u so.bytes ys None so.went r).0; agrees = λ some. absurd (some refl) })
+    → SoFar left faults whole rest a b s t → Ran left faults b c t u ys None → e ≡ file.Text (reported_fault (record { line = n; cause = Memory })) → Follows left faults look whole a c s u (Err e)
+out {S} {X} {W} {left} {faults} adds {whole} {rest} {a} {b} {c} {s} {t} {u} {look} ys e n so r reported =
+    subst (λ (e : FileError). Follows left faults look whole a c s u (Err e)) (sym reported) (record { bytes = so.bytes ++ ys; ran = (adds.goes a b c s t u so.bytes ys None so.went r).0; agrees = λ some. absurd (some refl) })
 
 -- all was read
 pub done : {S X W : Type 0} {left : S → Option (List ℕ)} {faults : S → ℕ} → AddsUp left faults → {whole rest : Reader W} {a b : LinesData} {s t : S} {look : X → W} (x : X) → b.failure ≡ None
@@ -190,15 +190,15 @@ line_is {S} {X} {Y} {left} {faults} {a} {b} {c} {s} {t} view read ws (Ok x) r d 
       agrees = λ later may. ap (λ (p : Cursor). line_at read p) (d.same later) ∙ line_by read (b.given + 1) (b.held ++ later) (before_first is_feed b.held) (place (passed b) later) (view x) (d.line later) (ap read (sym front) ∙ says);
     }))
 line_is {S} {X} {Y} {left} {faults} {a} {b} {c} {s} {t} view read ws (Err cause) r d front says takes =
-    subst (λ (r : Result X FileError). Follows left faults view (line_at read) a c s t r) (sym takes.0) (subst (λ (l : LinesData). Follows left faults view (line_at read) a l s t (Err (file.Text (told_fault (record { line = b.given + 1; cause = cause }))))) (sym takes.1) (record {
+    subst (λ (r : Result X FileError). Follows left faults view (line_at read) a c s t r) (sym takes.0) (subst (λ (l : LinesData). Follows left faults view (line_at read) a l s t (Err (file.Text (reported_fault (record { line = b.given + 1; cause = cause }))))) (sym takes.1) (record {
       bytes = d.bytes;
       ran = d.ran;
       agrees = λ some later may. (record { line = b.given + 1; cause = cause }, ap (λ (p : Cursor). line_at read p) (d.same later) ∙ line_not read (b.given + 1) (b.held ++ later) (before_first is_feed b.held) (place (passed b) later) cause (d.line later) (ap read (sym front) ∙ says some), refl);
     }))
 
 -- memory ran out over the line at the front
-pub due_wanting : {S : Type 0} {left : S → Option (List ℕ)} {faults : S → ℕ} {a b : LinesData} {s t : S} (e : FileError) (n : ℕ) → IsDue left faults a b s t → e ≡ file.Text (told_fault (record { line = n; cause = Memory })) → Follows {X = Unit {0}} left faults (λ _. []) due a b s t (Err e)
-due_wanting {S} {left} {faults} {a} {b} {s} {t} e n d told = subst (λ (e : FileError). Follows {X = Unit {0}} left faults (λ _. []) due a b s t (Err e)) (sym told) (record { bytes = d.bytes; ran = d.ran; agrees = λ some. absurd (some refl) })
+pub due_wanting : {S : Type 0} {left : S → Option (List ℕ)} {faults : S → ℕ} {a b : LinesData} {s t : S} (e : FileError) (n : ℕ) → IsDue left faults a b s t → e ≡ file.Text (reported_fault (record { line = n; cause = Memory })) → Follows {X = Unit {0}} left faults (λ _. []) due a b s t (Err e)
+due_wanting {S} {left} {faults} {a} {b} {s} {t} e n d reported = subst (λ (e : FileError). Follows {X = Unit {0}} left faults (λ _. []) due a b s t (Err e)) (sym reported) (record { bytes = d.bytes; ran = d.ran; agrees = λ some. absurd (some refl) })
 
 -- no line is due
 pub line_stops : {S X Y : Type 0} {left : S → Option (List ℕ)} {faults : S → ℕ} {a b : LinesData} {s t : S} {e : FileError} (view : X → Y) (read : Words → Read Y) (r : Result X FileError)

@@ -255,9 +255,9 @@ least_some : (from : Option ℕ) (w : ℕ) → 1 ≤ unwrap_or from 1 → 1 ≤ 
 least_some None w some low = low
 least_some (Some v) w some low = some
 
-told_some : (from : Option ℕ) (w : ℕ) → 1 ≤ unwrap_or from w → 1 ≤ unwrap_or from 1
-told_some None w some = omega arith
-told_some (Some v) w some = some
+reported_some : (from : Option ℕ) (w : ℕ) → 1 ≤ unwrap_or from w → 1 ≤ unwrap_or from 1
+reported_some None w some = omega arith
+reported_some (Some v) w some = some
 
 pub form_head : (h : HeadData) → HeadForm h → IsHead h
 form_head h k =
@@ -300,7 +300,7 @@ head_form h k =
           (all_forms s p m.states v.rows k.entries);
       bound = record { positive = k.bound.parts.positive; lowest = k.bound.parts.lowest; most = k.bound.parts.most; small = k.bound.small };
       w = (k.asked.precision.0, omega (arith, k.asked.precision.1));
-      range = (told_some h.from h.asked.w k.range.0, k.range.1);
+      range = (reported_some h.from h.asked.w k.range.0, k.range.1);
       depth = omega (arith, k.asked.depth);
       grid = in_grid h.asked.d k.asked.grid.positive k.asked.grid.small;
       box = record { size = k.asked.grid.one_each; spans = boxed_from (2 ^ h.asked.depth) h.asked.root (pow_pos h.asked.depth) k.asked.spans k.asked.grid.multiples };

@@ -143,6 +143,6 @@ pub from_none : (w : ℕ) (c : Cursor) → from_at false w c ≡ Ok (None, c)
 unfolding from_at
 from_none w c = refl
 
-pub from_told : (w : ℕ) (c : Cursor) → from_at true w c ≡ (line_at (number_in (codes "from") 1 (w + 1)) c >>= λ v. Ok (Some v.0, v.1))
+pub from_reported : (w : ℕ) (c : Cursor) → from_at true w c ≡ (line_at (number_in (codes "from") 1 (w + 1)) c >>= λ v. Ok (Some v.0, v.1))
 unfolding from_at
-from_told w c = refl
+from_reported w c = refl

@@ -30,7 +30,7 @@ use Rattle.std.proofs.lemmas.List.Elements.{All-from_recursion, recursion_from_A
 use Rattle.corner_lift.specs.Case.{CaseData}
 use Rattle.corner_lift.specs.Certificate.{AreNumbers}
 use Rattle.cert_text.specs.Forms.{AreMarks, IsReject, IsNode, IsPrecision}
-use Rattle.cert_text.specs.Nodes.{Node, split, accept, reject, unknown, begins, fit_states, fits_leaf, split_at, accept_at, rejecting_at, reject_at, unknown_at, node_by, decided_by, told_at, second_by, node_in, node_at, node_lines}
+use Rattle.cert_text.specs.Nodes.{Node, split, accept, reject, unknown, begins, fit_states, fits_leaf, split_at, accept_at, rejecting_at, reject_at, unknown_at, node_by, decided_by, reported_at, second_by, node_in, node_at, node_lines}
 use Rattle.cert_text.proofs.Steps.{Reads, reads_ok, reads_spelled, reads_first, reads_ended, reads_so, reads_pass}
 use Rattle.cert_text.proofs.Decimals.{number_back, number_again}
 use Rattle.cert_text.proofs.CutLines.{IsPlain, IsLine, every_append}
@@ -100,8 +100,8 @@ reads_reject ws =
 
 -- ---- what a node keeps
 
-abbrev pub pick_ends : HeadData → List ℕ
-pick_ends h = map length h.asked.model.states
+abbrev pub choice_ends : HeadData → List ℕ
+choice_ends h = map length h.asked.model.states
 
 abbrev pub rank_ends : HeadData → ℕ → List ℕ
 rank_ends h k = map (λ _. k + 1) h.asked.model.states
@@ -114,12 +114,12 @@ pub record RejectForm (h : HeadData) (e k : ℕ) (y : List ℤ) (picks ranks : L
   pub k_some : 1 ≤ k
   pub k_low : k < 65537
   pub vector : AreVector h y
-  pub picks_fit : AreMarks (pick_ends h) picks
+  pub choices_fit : AreMarks (choice_ends h) picks
   pub ranks_fit : AreMarks (rank_ends h k) ranks
   pub states_fit : fit_states h.asked.model.goal picks ranks ≡ true
 
-abbrev told : ℕ → ℕ → List ℤ → List ℕ → List ℕ → RejectData
-told e k y picks ranks = record { numbers = y; picks = picks; ranks = ranks; e = e; k = k }
+abbrev reported : ℕ → ℕ → List ℤ → List ℕ → List ℕ → RejectData
+reported e k y picks ranks = record { numbers = y; picks = picks; ranks = ranks; e = e; k = k }
 
 abbrev pub NodeLines : HeadData → Node → Lines → Type 0
 NodeLines h node ls = (ls ≡ node_lines h.from h.asked.model.init node) × IsNode h node
@@ -219,8 +219,8 @@ states_few kind states parameters choices transitions [] low h = tt
 states_few kind states parameters choices transitions (rows ∷ all) low h =
     (omega (arith, low, rows_few states parameters choices transitions rows h.0.rows_fit), states_few kind states parameters (choices - length rows) (transitions - sum_by length rows) all (omega (arith, low)) h.1)
 
-pick_ends_low : (h : HeadData) → HeadForm h → AreEnds (pick_ends h)
-pick_ends_low h k = ends_low length h.asked.model.states (states_few h.asked.model.kind (length h.asked.model.states) (length h.asked.model.names) 131072 262144 h.asked.model.states (omega arith) k.rows)
+choice_ends_low : (h : HeadData) → HeadForm h → AreEnds (choice_ends h)
+choice_ends_low h k = ends_low length h.asked.model.states (states_few h.asked.model.kind (length h.asked.model.states) (length h.asked.model.names) 131072 262144 h.asked.model.states (omega arith) k.rows)
 
 all_low : {A : Type 0} (xs : List A) (n : ℕ) → n ≤ unmarked → AllByRecursion (λ (_ : A). n ≤ unmarked) xs
 all_low [] n h = tt
@@ -250,7 +250,7 @@ product_low : (e k : ℕ) → e < 127 → k < 65537 → e * k < 10 ^ 8
 product_low e k he hk = let low : e ≤ 126 = omega (arith, he) in omega (arith, hk, mul-le-mul_right k low)
 
 abbrev pub RejectLines : HeadData → Node → Lines → Type 0
-RejectLines h node ls = (e : ℕ) × (k : ℕ) × (y : List ℤ) × (picks : List ℕ) × (ranks : List ℕ) × (node ≡ reject h.asked.w (told e k y picks ranks)) × (ls ≡ node_lines None h.asked.model.init (reject h.asked.w (told e k y picks ranks))) × RejectForm h e k y picks ranks
+RejectLines h node ls = (e : ℕ) × (k : ℕ) × (y : List ℤ) × (picks : List ℕ) × (ranks : List ℕ) × (node ≡ reject h.asked.w (reported e k y picks ranks)) × (ls ≡ node_lines None h.asked.model.init (reject h.asked.w (reported e k y picks ranks))) × RejectForm h e k y picks ranks
 
 -- the words of the first line, of a leaf that passes the tests
 first_words : (h : HeadData) (r : Rejected) (ws : Words) (y : List ℤ) (picks ranks : List ℕ) → HeadForm h → IsRejected r ws → AreVector h y → LeafFits h r y picks ranks → ws ≡ reject_words r.e r.k (number y h.asked.model.init) (2 ^ h.asked.w)
@@ -284,21 +284,21 @@ inverts_reject h k =
     inverts_so
     (inverts_pass (inverts_line_in Anything (λ r ws. IsRejected r ws) reject_of reads_reject) (λ r _ (ws0, (l, _), _).
     inverts_pass (inverts_values h k (codes "y") (key_fits 14 (codes "y") refl refl)) (λ y _ _.
-    inverts_pass (inverts_marks h k (codes "choice") length (key_fits 12 (codes "choice") refl refl) (pick_ends_low h k)) (λ picks _ _.
+    inverts_pass (inverts_marks h k (codes "choice") length (key_fits 12 (codes "choice") refl refl) (choice_ends_low h k)) (λ picks _ _.
     inverts_pass (inverts_marks h k (codes "rank") (λ _. r.k + 1) (key_fits 12 (codes "rank") refl refl) (rank_ends_low h r.k l.k_low)) (λ ranks _ _.
-    inverts_tested Anything (LeafFits h r y picks ranks) (fits_leaf h r y picks ranks) (reject h.asked.w (told r.e r.k y picks ranks)) (decides_leaf h r y picks ranks))))))
+    inverts_tested Anything (LeafFits h r y picks ranks) (fits_leaf h r y picks ranks) (reject h.asked.w (reported r.e r.k y picks ranks)) (decides_leaf h r y picks ranks))))))
     (RejectLines h)
     (λ node ls (r, f0, l0, (ws0, (l, _), one0), (y, f1, l1, (ws1, (is1, v), one1), (picks, f2, l2, (ws2, (is2, fit2), one2), (ranks, f3, l3, (ws3, (is3, fit3), one3), (tests, same, none), e3), e2), e1), e0).
     let w0 = first_words h r ws0 y picks ranks k l v tests in
     let r3 : l2 ≡ line (codes "rank" ∷ map mark_word ranks) ∷ [] = put l2 f3 l3 (line (codes "rank" ∷ map mark_word ranks) ∷ []) [] e3 (one3 ∙ ap (λ t. line t ∷ []) is3) none in
     let r2 : l1 ≡ line (codes "choice" ∷ map mark_word picks) ∷ line (codes "rank" ∷ map mark_word ranks) ∷ [] = put l1 f2 l2 (line (codes "choice" ∷ map mark_word picks) ∷ []) (line (codes "rank" ∷ map mark_word ranks) ∷ []) e2 (one2 ∙ ap (λ t. line t ∷ []) is2) r3 in
     let r1 : l0 ≡ line (numbers_words (codes "y") y) ∷ line (codes "choice" ∷ map mark_word picks) ∷ line (codes "rank" ∷ map mark_word ranks) ∷ [] = put l0 f1 l1 (line (numbers_words (codes "y") y) ∷ []) (line (codes "choice" ∷ map mark_word picks) ∷ line (codes "rank" ∷ map mark_word ranks) ∷ []) e1 (one1 ∙ ap (λ t. line t ∷ []) is1) r2 in
-    let r0 : ls ≡ node_lines None h.asked.model.init (reject h.asked.w (told r.e r.k y picks ranks)) = put ls f0 l0 (line (reject_words r.e r.k (number y h.asked.model.init) (2 ^ h.asked.w)) ∷ []) (line (numbers_words (codes "y") y) ∷ line (codes "choice" ∷ map mark_word picks) ∷ line (codes "rank" ∷ map mark_word ranks) ∷ []) e0 (one0 ∙ ap (λ t. line t ∷ []) w0) r1 in
-    (r.e, r.k, y, picks, ranks, sym same, r0, record { e_low = l.e_low; k_some = l.k_some; k_low = l.k_low; vector = v; picks_fit = fit2; ranks_fit = fit3; states_fit = tests.1.1.1 }))
+    let r0 : ls ≡ node_lines None h.asked.model.init (reject h.asked.w (reported r.e r.k y picks ranks)) = put ls f0 l0 (line (reject_words r.e r.k (number y h.asked.model.init) (2 ^ h.asked.w)) ∷ []) (line (numbers_words (codes "y") y) ∷ line (codes "choice" ∷ map mark_word picks) ∷ line (codes "rank" ∷ map mark_word ranks) ∷ []) e0 (one0 ∙ ap (λ t. line t ∷ []) w0) r1 in
+    (r.e, r.k, y, picks, ranks, sym same, r0, record { e_low = l.e_low; k_some = l.k_some; k_low = l.k_low; vector = v; choices_fit = fit2; ranks_fit = fit3; states_fit = tests.1.1.1 }))
     (λ node ls (e, kk, y, picks, ranks, is, are, l). back node ls e kk y picks ranks is are l)
   where
-    back : (node : Node) (ls : Lines) (e kk : ℕ) (y : List ℤ) (picks ranks : List ℕ) → node ≡ reject h.asked.w (told e kk y picks ranks) → ls ≡ node_lines None h.asked.model.init (reject h.asked.w (told e kk y picks ranks)) → RejectForm h e kk y picks ranks
-        → Then (OneLine (λ r ws. IsRejected r ws × IsLine ws)) (λ r. Then (OneLine (λ zs ws. (ws ≡ numbers_words (codes "y") zs) × AreVector h zs)) (λ y. Then (OneLine (λ marks ws. (ws ≡ codes "choice" ∷ map mark_word marks) × AreMarks (pick_ends h) marks)) (λ picks. Then (OneLine (λ marks ws. (ws ≡ codes "rank" ∷ map mark_word marks) × AreMarks (rank_ends h r.k) marks)) (λ ranks. Tested (LeafFits h r y picks ranks) (reject h.asked.w (told r.e r.k y picks ranks)))))) node ls
+    back : (node : Node) (ls : Lines) (e kk : ℕ) (y : List ℤ) (picks ranks : List ℕ) → node ≡ reject h.asked.w (reported e kk y picks ranks) → ls ≡ node_lines None h.asked.model.init (reject h.asked.w (reported e kk y picks ranks)) → RejectForm h e kk y picks ranks
+        → Then (OneLine (λ r ws. IsRejected r ws × IsLine ws)) (λ r. Then (OneLine (λ zs ws. (ws ≡ numbers_words (codes "y") zs) × AreVector h zs)) (λ y. Then (OneLine (λ marks ws. (ws ≡ codes "choice" ∷ map mark_word marks) × AreMarks (choice_ends h) marks)) (λ picks. Then (OneLine (λ marks ws. (ws ≡ codes "rank" ∷ map mark_word marks) × AreMarks (rank_ends h r.k) marks)) (λ ranks. Tested (LeafFits h r y picks ranks) (reject h.asked.w (reported r.e r.k y picks ranks)))))) node ls
     back node ls e kk y picks ranks is are l =
         let n = number y h.asked.model.init in
         let r : Rejected = record { e = e; k = kk; m = pos (e * kk); y = n; z = pos (2 ^ h.asked.w) } in
@@ -330,7 +330,7 @@ inverts_reject h k =
               picks,
               x2,
               x3,
-              (codes "choice" ∷ map mark_word picks, (refl, l.picks_fit), refl),
+              (codes "choice" ∷ map mark_word picks, (refl, l.choices_fit), refl),
               (ranks, x3, [], (codes "rank" ∷ map mark_word ranks, (refl, l.ranks_fit), refl), ((refl, (refl, (refl, l.states_fit))), sym is, refl), refl),
               refl,
             ),
@@ -448,10 +448,10 @@ numbers_vector k zs v = record { size = v.size; range = each zs (recursion_from_
     each [] h = refl
     each (z ∷ zs) h = rw (one z h.0, each zs h.1) refl
 
-form_reject : (h : HeadData) (e k : ℕ) (y : List ℤ) (picks ranks : List ℕ) → RejectForm h e k y picks ranks → IsReject h.asked (told e k y picks ranks)
+form_reject : (h : HeadData) (e k : ℕ) (y : List ℤ) (picks ranks : List ℕ) → RejectForm h e k y picks ranks → IsReject h.asked (reported e k y picks ranks)
 form_reject h e k y picks ranks f = record {
   numbers = vector_numbers h.asked y f.vector;
-  picks = f.picks_fit;
+  picks = f.choices_fit;
   ranks = f.ranks_fit;
   rate = (omega (arith, f.e_low), f.k_some, omega (arith, f.k_low));
   places = f.states_fit;
@@ -463,7 +463,7 @@ reject_form h r f = record {
   k_some = f.rate.1;
   k_low = omega (arith, f.rate.2);
   vector = numbers_vector h.asked r.numbers f.numbers;
-  picks_fit = f.picks;
+  choices_fit = f.picks;
   ranks_fit = f.ranks;
   states_fit = f.places;
 }
@@ -545,19 +545,19 @@ at_some : (from : Option ℕ) (w u : ℕ) → 1 ≤ unwrap_or from 1 → 1 ≤ w
 at_some None w u some low least = (omega (arith, low, least), omega arith)
 at_some (Some v) w u some low least = (omega (arith, some, least), least)
 
-ToldLines : HeadData → Node → Lines → Type 0
-ToldLines h = Then (NumberLine (codes "at") (least_precision h) (h.asked.w + 1)) (λ u. DecidedLines (at_precision u h))
+ReportedLines : HeadData → Node → Lines → Type 0
+ReportedLines h = Then (NumberLine (codes "at") (least_precision h) (h.asked.w + 1)) (λ u. DecidedLines (at_precision u h))
 
-inverts_told : (h : HeadData) → HeadForm h → Inverts Anything (ToldLines h) (told_at h)
-unfolding told_at ToldLines
-inverts_told h k =
+inverts_reported : (h : HeadData) → HeadForm h → Inverts Anything (ReportedLines h) (reported_at h)
+unfolding reported_at ReportedLines
+inverts_reported h k =
     inverts_pass (number_step (codes "at") (least_precision h) (h.asked.w + 1) (omega (arith, k.w.1)) (key_fits 22 (codes "at") refl refl)) (λ u ls (ws, (is, low, high), one).
     let ranged = at_some h.from h.asked.w u k.range.0 k.w.0 low in inverts_decided (at_precision u h) (at_form h u k ranged.1 ranged.0 (omega (arith, high))))
 
 -- ---- a node in the second version
 
 abbrev nested_second : HeadData → Reader Node
-nested_second h = peek (key_of (codes "split")) (split_at h) (peek (key_of (codes "at")) (told_at h) unknown_at)
+nested_second h = peek (key_of (codes "split")) (split_at h) (peek (key_of (codes "at")) (reported_at h) unknown_at)
 
 same_second : (h : HeadData) (c : Cursor) → nested_second h c ≡ second_at h c
 unfolding second_by key_of chosen
@@ -565,55 +565,55 @@ same_second h c = by_due (due c) refl
   where
     by_due : (r : Result (List ℕ × Cursor) TextError) → due c ≡ r → nested_second h c ≡ second_at h c
     by_due (Ok l) e =
-        let second = peek_ok (key_of (codes "at")) (told_at h) unknown_at c l e in
-        peek_ok (key_of (codes "split")) (split_at h) (peek (key_of (codes "at")) (told_at h) unknown_at) c l e
+        let second = peek_ok (key_of (codes "at")) (reported_at h) unknown_at c l e in
+        peek_ok (key_of (codes "split")) (split_at h) (peek (key_of (codes "at")) (reported_at h) unknown_at) c l e
         ∙ ap (λ x. chosen (key_of (codes "split") l.0) (split_at h c) x) second
         ∙ sym (ap (λ (r : Result (List ℕ × Cursor) TextError). r >>= λ l. second_by h (words l.0) c) e)
     by_due (Err x) e = rw e refl
 
 SecondLines : HeadData → Node → Lines → Type 0
-SecondLines h node ls = SplitLines h node ls ⊎ (ToldLines h node ls ⊎ UnknownLines node ls)
+SecondLines h node ls = SplitLines h node ls ⊎ (ReportedLines h node ls ⊎ UnknownLines node ls)
 
 at_is_line : (h : HeadData) (u : ℕ) → HeadForm h → u < h.asked.w + 1 → IsLine (number_words (codes "at") u)
 at_is_line h u k low = number_line (codes "at") u (key_fits 22 (codes "at") refl refl) (omega (arith, low, k.w.1))
 
 -- the first of the lines
-told_first : (u : ℕ) (first last ls : Lines) (ws : Words) → ws ≡ number_words (codes "at") u → first ≡ line ws ∷ [] → ls ≡ first ++ last → ls ≡ line (number_words (codes "at") u) ∷ last
-told_first u first last ls ws is one whole = whole ∙ ap (λ t. t ++ last) (one ∙ ap (λ t. line t ∷ []) is)
+reported_first : (u : ℕ) (first last ls : Lines) (ws : Words) → ws ≡ number_words (codes "at") u → first ≡ line ws ∷ [] → ls ≡ first ++ last → ls ≡ line (number_words (codes "at") u) ∷ last
+reported_first u first last ls ws is one whole = whole ∙ ap (λ t. t ++ last) (one ∙ ap (λ t. line t ∷ []) is)
 
 inverts_second : (h : HeadData) → HeadForm h → Inverts Anything (SecondLines h) (second_at h)
-unfolding SecondLines SplitLines ToldLines UnknownLines
+unfolding SecondLines SplitLines ReportedLines UnknownLines
 inverts_second h k =
     inverts_same (same_second h)
     (inverts_peek (key_of (codes "split")) (inverts_split h k)
-    (inverts_peek (key_of (codes "at")) (inverts_told h k) inverts_unknown
-    (λ node ls (u, first, last, (ws, (is, low, high), one), _, whole). opens_first Anything (begins_same (codes "at") (codes "at") (decimal u ∷ []) last ls refl (at_is_line h u k high) (told_first u first last ls ws is one whole)))
+    (inverts_peek (key_of (codes "at")) (inverts_reported h k) inverts_unknown
+    (λ node ls (u, first, last, (ws, (is, low, high), one), _, whole). opens_first Anything (begins_same (codes "at") (codes "at") (decimal u ∷ []) last ls refl (at_is_line h u k high) (reported_first u first last ls ws is one whole)))
     (λ node ls (_, are). opens_first Anything (begins_other (codes "at") (codes "unknown") [] [] ls refl unknown_is_line are)))
     (λ node ls (axis, _, are, low). opens_first Anything (begins_same (codes "split") (codes "split") (decimal axis ∷ []) [] ls refl (split_is_line h axis k low) are))
     (λ node ls s. elim s [
-      | inl (u, first, last, (ws, (is, low, high), one), _, whole) ↦ opens_first Anything (begins_other (codes "split") (codes "at") (decimal u ∷ []) last ls refl (at_is_line h u k high) (told_first u first last ls ws is one whole))
+      | inl (u, first, last, (ws, (is, low, high), one), _, whole) ↦ opens_first Anything (begins_other (codes "split") (codes "at") (decimal u ∷ []) last ls refl (at_is_line h u k high) (reported_first u first last ls ws is one whole))
       | inr (_, are) ↦ opens_first Anything (begins_other (codes "split") (codes "unknown") [] [] ls refl unknown_is_line are)
     ]))
 
 -- a node of the second version, as its lines tell it
-told_node : (h : HeadData) (v u : ℕ) (node : Node) (last ls : Lines) → h.from ≡ Some v → least_precision h ≤ u → u < h.asked.w + 1 → ls ≡ line (number_words (codes "at") u) ∷ last → DecidedLines (at_precision u h) node last → NodeLines h node ls
+reported_node : (h : HeadData) (v u : ℕ) (node : Node) (last ls : Lines) → h.from ≡ Some v → least_precision h ≤ u → u < h.asked.w + 1 → ls ≡ line (number_words (codes "at") u) ∷ last → DecidedLines (at_precision u h) node last → NodeLines h node ls
 unfolding DecidedLines AcceptLines
-told_node h v u node last ls from low high are (inl (x, is, same, vector)) =
+reported_node h v u node last ls from low high are (inl (x, is, same, vector)) =
     subst (λ y. NodeLines h y ls) (sym is)
     (are ∙ ap (λ t. line (number_words (codes "at") u) ∷ t) same ∙ ap (λ f. at_lines f u ++ line (numbers_words (codes "accept") x) ∷ []) (sym from), ((low, omega (arith, high)), vector_numbers (at_precision u h).asked x vector))
-told_node h v u node last ls from low high are (inr (inl (e, k, y, picks, ranks, is, same, form))) =
+reported_node h v u node last ls from low high are (inr (inl (e, k, y, picks, ranks, is, same, form))) =
     subst (λ z. NodeLines h z ls) (sym is)
-    (are ∙ ap (λ t. line (number_words (codes "at") u) ∷ t) same ∙ ap (λ f. node_lines f h.asked.model.init (reject u (told e k y picks ranks))) (sym from), ((low, omega (arith, high)), form_reject (at_precision u h) e k y picks ranks form))
-told_node h v u node last ls from low high are (inr (inr bad)) = absurd bad
+    (are ∙ ap (λ t. line (number_words (codes "at") u) ∷ t) same ∙ ap (λ f. node_lines f h.asked.model.init (reject u (reported e k y picks ranks))) (sym from), ((low, omega (arith, high)), form_reject (at_precision u h) e k y picks ranks form))
+reported_node h v u node last ls from low high are (inr (inr bad)) = absurd bad
 
 second_node : (h : HeadData) (v : ℕ) (node : Node) (ls : Lines) → h.from ≡ Some v → SecondLines h node ls → NodeLines h node ls
-unfolding SecondLines SplitLines ToldLines UnknownLines
+unfolding SecondLines SplitLines ReportedLines UnknownLines
 second_node h v node ls from (inl (axis, is, are, low)) = subst (λ y. NodeLines h y ls) (sym is) (are, low)
-second_node h v node ls from (inr (inl (u, first, last, (ws, (is, low, high), one), decided, whole))) = told_node h v u node last ls from low high (told_first u first last ls ws is one whole) decided
+second_node h v node ls from (inr (inl (u, first, last, (ws, (is, low, high), one), decided, whole))) = reported_node h v u node last ls from low high (reported_first u first last ls ws is one whole) decided
 second_node h v node ls from (inr (inr (is, are))) = subst (λ y. NodeLines h y ls) (sym is) (are, tt)
 
 node_second : (h : HeadData) (v : ℕ) (node : Node) (ls : Lines) → h.from ≡ Some v → NodeLines h node ls → SecondLines h node ls
-unfolding SecondLines SplitLines ToldLines UnknownLines DecidedLines AcceptLines
+unfolding SecondLines SplitLines ReportedLines UnknownLines DecidedLines AcceptLines
 node_second h v (split axis) ls from (are, low) = inl (axis, refl, are, low)
 node_second h v (accept u x) ls from (are, (ranged, numbers)) =
     inr (inl (
@@ -649,7 +649,7 @@ first_node h node ls from (inr (inl (x, is, are, v))) =
     subst (λ y. NodeLines h y ls) (sym is) (are ∙ ap (λ f. node_lines f h.asked.model.init (accept h.asked.w x)) (sym from), ((omega (arith, least), omega arith), vector_numbers h.asked x v))
 first_node h node ls from (inr (inr (inl (e, kk, y, picks, ranks, is, are, l)))) =
     let least : least_precision h ≡ h.asked.w = ap (λ f. unwrap_or f h.asked.w) from in
-    subst (λ y. NodeLines h y ls) (sym is) (are ∙ ap (λ f. node_lines f h.asked.model.init (reject h.asked.w (told e kk y picks ranks))) (sym from), ((omega (arith, least), omega arith), form_reject h e kk y picks ranks l))
+    subst (λ y. NodeLines h y ls) (sym is) (are ∙ ap (λ f. node_lines f h.asked.model.init (reject h.asked.w (reported e kk y picks ranks))) (sym from), ((omega (arith, least), omega arith), form_reject h e kk y picks ranks l))
 first_node h node ls from (inr (inr (inr (is, are)))) = subst (λ y. NodeLines h y ls) (sym is) (are, tt)
 
 node_first : (h : HeadData) (node : Node) (ls : Lines) → h.from ≡ None → NodeLines h node ls → AllLines h node ls

@@ -7,7 +7,7 @@ use Rattle.line_text.specs.Reading.{◌>>=◌, Cursor, at, due, fault, line_at}
 use Rattle.cert_text.specs.Lines.{values_of, marks_of, reject_of, unknown_of, Rejected}
 use Rattle.cert_text.specs.Head.{HeadData, least_precision, at_precision}
 use Rattle.cert_text.specs.Nodes.{split, accept, reject, unknown, begins, fits_leaf}
-use Rattle.cert_text.specs.Nodes.{split_at, accept_at, rejecting_at, reject_at, unknown_at, node_by, decided_by, told_at, second_by, node_in, node_at}
+use Rattle.cert_text.specs.Nodes.{split_at, accept_at, rejecting_at, reject_at, unknown_at, node_by, decided_by, reported_at, second_by, node_in, node_at}
 
 pub split_is_read : (h : HeadData) (c : Cursor) → split_at h c ≡ (line_at (number_in (codes "split") 0 (length h.asked.model.names)) c >>= λ axis. Ok (split axis.0, axis.1))
 unfolding split_at
@@ -33,9 +33,9 @@ pub unknown_is_read : (c : Cursor) → unknown_at c ≡ (line_at unknown_of c >>
 unfolding unknown_at
 unknown_is_read c = refl
 
-pub told_is_read : (h : HeadData) (c : Cursor) → told_at h c ≡ (line_at (number_in (codes "at") (least_precision h) (h.asked.w + 1)) c >>= λ u. due u.1 >>= λ l. decided_by (at_precision u.0 h) (words l.0) u.1)
-unfolding told_at
-told_is_read h c = refl
+pub reported_is_read : (h : HeadData) (c : Cursor) → reported_at h c ≡ (line_at (number_in (codes "at") (least_precision h) (h.asked.w + 1)) c >>= λ u. due u.1 >>= λ l. decided_by (at_precision u.0 h) (words l.0) u.1)
+unfolding reported_at
+reported_is_read h c = refl
 
 pub node_is_read : (h : HeadData) (c : Cursor) → node_at h c ≡ (due c >>= λ l. node_in h h.from (words l.0) c)
 unfolding node_at
@@ -79,16 +79,16 @@ decided_other h ws c e f = no (begins (codes "accept") ws) (accept_at h c) (elim
 
 pub second_split : (h : HeadData) (ws : List (List ℕ)) (c : Cursor) → begins (codes "split") ws ≡ true → second_by h ws c ≡ split_at h c
 unfolding second_by
-second_split h ws c e = yes (begins (codes "split") ws) (split_at h c) (elim (begins (codes "at") ws) [ true ↦ told_at h c | false ↦ unknown_at c ]) e
+second_split h ws c e = yes (begins (codes "split") ws) (split_at h c) (elim (begins (codes "at") ws) [ true ↦ reported_at h c | false ↦ unknown_at c ]) e
 
-pub second_told : (h : HeadData) (ws : List (List ℕ)) (c : Cursor) → begins (codes "split") ws ≡ false → begins (codes "at") ws ≡ true → second_by h ws c ≡ told_at h c
+pub second_reported : (h : HeadData) (ws : List (List ℕ)) (c : Cursor) → begins (codes "split") ws ≡ false → begins (codes "at") ws ≡ true → second_by h ws c ≡ reported_at h c
 unfolding second_by
-second_told h ws c e f = no (begins (codes "split") ws) (split_at h c) (elim (begins (codes "at") ws) [ true ↦ told_at h c | false ↦ unknown_at c ]) e ∙ yes (begins (codes "at") ws) (told_at h c) (unknown_at c) f
+second_reported h ws c e f = no (begins (codes "split") ws) (split_at h c) (elim (begins (codes "at") ws) [ true ↦ reported_at h c | false ↦ unknown_at c ]) e ∙ yes (begins (codes "at") ws) (reported_at h c) (unknown_at c) f
 
 pub second_other : (h : HeadData) (ws : List (List ℕ)) (c : Cursor) → begins (codes "split") ws ≡ false → begins (codes "at") ws ≡ false → second_by h ws c ≡ unknown_at c
 unfolding second_by
-second_other h ws c e f = no (begins (codes "split") ws) (split_at h c) (elim (begins (codes "at") ws) [ true ↦ told_at h c | false ↦ unknown_at c ]) e ∙ no (begins (codes "at") ws) (told_at h c) (unknown_at c) f
+second_other h ws c e f = no (begins (codes "split") ws) (split_at h c) (elim (begins (codes "at") ws) [ true ↦ reported_at h c | false ↦ unknown_at c ]) e ∙ no (begins (codes "at") ws) (reported_at h c) (unknown_at c) f
 
 -- what the code tests of the line at the front
-pub told_by : (key line text : List ℕ) (b v : Bool) → b ≡ begins key (words line) → line ≡ text → b ≡ v → begins key (words text) ≡ v
-told_by key line text b v e same is = ap (λ (l : List ℕ). begins key (words l)) (sym same) ∙ sym e ∙ is
+pub reported_by : (key line text : List ℕ) (b v : Bool) → b ≡ begins key (words line) → line ≡ text → b ≡ v → begins key (words text) ≡ v
+reported_by key line text b v e same is = ap (λ (l : List ℕ). begins key (words l)) (sym same) ∙ sym e ∙ is

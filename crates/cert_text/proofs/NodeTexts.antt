@@ -20,7 +20,7 @@ use Rattle.std.specs.Prelude.{is_some}
 use Rattle.corner_lift.specs.Case.{CaseData, number}
 use Rattle.cert_text.specs.Head.{HeadData, head_at}
 use Rattle.cert_text.specs.Forms.{IsHead, IsNode}
-use Rattle.cert_text.specs.Laws.{told_lines}
+use Rattle.cert_text.specs.Laws.{reported_lines}
 use Rattle.cert_text.specs.Nodes.{Node, split, accept, reject, unknown, node_lines}
 use Rattle.cert_text.specs.Migrated.{lines_of}
 use Rattle.cert_text.specs.Cut.{node_bytes, IsSplitOn, IsAcceptOf, IsRejectOf, IsOpenLeaf, CutsHead, HeadsAreCut, IsBehind, lines_ahead, top_bytes}
@@ -34,7 +34,7 @@ use Rattle.cert_text.proofs.HeadForms.{head_form}
 use Rattle.cert_text.proofs.HeadLaws.{inverts_head}
 use Rattle.cert_text.proofs.NodeLaws.{inverts_node}
 use Rattle.cert_text.proofs.SecondLines.{line_ended, head_ended}
-use Rattle.cert_text.proofs.TextLines.{IsEnded, IsTextLine, one_each, lines_ahead_told, concat_lines}
+use Rattle.cert_text.proofs.TextLines.{IsEnded, IsTextLine, one_each, lines_ahead_reported, concat_lines}
 
 abbrev Lines : Type 0
 Lines = List (List ℕ)
@@ -90,7 +90,7 @@ front_is n text behind len is sum =
 -- told lines that begin a text are cut off, as many as they are
 cut_all : (ls : Lines) (n : ℕ) (text rest front back : List ℕ) → AllByRecursion IsTextLine ls → n ≡ length ls → text ≡ concat ls ++ rest → front ≡ concat (take n (lines_of text)) → IsBehind n text back → (front ≡ concat ls) × (back ≡ rest)
 cut_all ls n text rest front back all count is before behind =
-    let whole : lines_of text ≡ ls ++ lines_of rest = ap lines_of is ∙ lines_ahead_told ls rest all in
+    let whole : lines_of text ≡ ls ++ lines_of rest = ap lines_of is ∙ lines_ahead_reported ls rest all in
     let first : take n (lines_of text) ≡ ls = ap (take n) whole ∙ ap (λ (k : ℕ). take k (ls ++ lines_of rest)) count ∙ take_front ls (lines_of rest) in
     let last : lines_of back ≡ lines_of rest = behind ∙ ap (drop n) whole ∙ ap (λ (k : ℕ). drop k (ls ++ lines_of rest)) count ∙ drop_front ls (lines_of rest) in
     (before ∙ ap concat first, sym (concat_lines back) ∙ ap concat last ∙ concat_lines rest)
@@ -101,25 +101,25 @@ left_all ls n text rest back all count is behind = (cut_all ls n text rest (conc
 
 -- ---- the lines of nodes and heads
 
-told_ended : (from : Option ℕ) (u : ℕ) (more : Lines) → AllByRecursion IsEnded more → AllByRecursion IsEnded (at_lines from u ++ more)
-told_ended None u more all = all
-told_ended (Some v) u more all = (line_ended (number_words (codes "at") u), all)
+reported_ended : (from : Option ℕ) (u : ℕ) (more : Lines) → AllByRecursion IsEnded more → AllByRecursion IsEnded (at_lines from u ++ more)
+reported_ended None u more all = all
+reported_ended (Some v) u more all = (line_ended (number_words (codes "at") u), all)
 
 node_ended : (from : Option ℕ) (init : ℕ) (node : Node) → AllByRecursion IsEnded (node_lines from init node)
 node_ended from init (split axis) = (line_ended (number_words (codes "split") axis), tt)
-node_ended from init (accept u x) = told_ended from u (accept_line x ∷ []) (line_ended (numbers_words (codes "accept") x), tt)
+node_ended from init (accept u x) = reported_ended from u (accept_line x ∷ []) (line_ended (numbers_words (codes "accept") x), tt)
 node_ended from init (reject u r) =
-    told_ended from u (reject_lines init u r)
+    reported_ended from u (reject_lines init u r)
     (line_ended (reject_words r.e r.k (number r.numbers init) (2 ^ u)), (line_ended (numbers_words (codes "y") r.numbers), (line_ended (codes "choice" ∷ map mark_word r.picks), (line_ended (codes "rank" ∷ map mark_word r.ranks), tt))))
 node_ended from init unknown = (line_ended (codes "unknown" ∷ []), tt)
 
-node_told : (h : HeadData) (node : Node) → IsHead h → IsNode h node → AllByRecursion IsTextLine (node_lines h.from h.asked.model.init node)
-node_told h node is fit =
+node_reported : (h : HeadData) (node : Node) → IsHead h → IsNode h node → AllByRecursion IsTextLine (node_lines h.from h.asked.model.init node)
+node_reported h node is fit =
     let ls = node_lines h.from h.asked.model.init node in
     one_each ls (node_ended h.from h.asked.model.init node) ((inverts_node h (head_form h is)).feeds node ls (refl, fit))
 
-head_told : (h : HeadData) → IsHead h → AllByRecursion IsTextLine (told_lines h)
-head_told h is = one_each (told_lines h) (head_ended h.asked h.from h.bound) (inverts_head.feeds h (told_lines h) (refl, head_form h is))
+head_reported : (h : HeadData) → IsHead h → AllByRecursion IsTextLine (reported_lines h)
+head_reported h is = one_each (reported_lines h) (head_ended h.asked h.from h.bound) (inverts_head.feeds h (reported_lines h) (refl, head_form h is))
 
 -- ---- with what a node begins
 
@@ -180,13 +180,13 @@ open_test None (reject u r) more = refl
 open_test (Some v) (reject u r) more = refl
 open_test from unknown more = refl
 
-split_told : (h : HeadData) (node : Node) (text rest : List ℕ) → text ≡ node_bytes h node ++ rest → begins text (codes "split") ≡ is_split node
-split_told h node text rest e =
+split_reported : (h : HeadData) (node : Node) (text rest : List ℕ) → text ≡ node_bytes h node ++ rest → begins text (codes "split") ≡ is_split node
+split_reported h node text rest e =
     let (more, is) = node_begins h.from h.asked.model.init node rest in
     ap (λ (t : List ℕ). begins t (codes "split")) (e ∙ is) ∙ split_test h.from node more
 
-open_told : (h : HeadData) (node : Node) (text rest : List ℕ) → text ≡ node_bytes h node ++ rest → begins text (codes "unknown") ≡ is_open node
-open_told h node text rest e =
+open_reported : (h : HeadData) (node : Node) (text rest : List ℕ) → text ≡ node_bytes h node ++ rest → begins text (codes "unknown") ≡ is_open node
+open_reported h node text rest e =
     let (more, is) = node_begins h.from h.asked.model.init node rest in
     ap (λ (t : List ℕ). begins t (codes "unknown")) (e ∙ is) ∙ open_test h.from node more
 
@@ -195,32 +195,32 @@ open_told h node text rest e =
 pub cut_split : (h : HeadData) (node : Node) (rest text : List ℕ) (i : ℕ) (back : List ℕ) → IsHead h → IsNode h node → text ≡ node_bytes h node ++ rest → begins text (codes "split") ≡ true
     → ((axis : ℕ) (more : List ℕ) → axis < most_parameters → text ≡ split_line axis ++ more → i ≡ axis) → IsBehind 1 text back → IsSplitOn node i × (back ≡ rest)
 unfolding is_split
-cut_split h (split axis) rest text i back is fit e begun told behind = (
-  told axis rest (omega (arith, fit, (head_form h is).declared.few)) (e ∙ ap (λ (t : List ℕ). t ++ rest) (append-nil (split_line axis))),
-  left_all (split_line axis ∷ []) 1 text rest back (node_told h (split axis) is fit) refl e behind,
+cut_split h (split axis) rest text i back is fit e begun reported behind = (
+  reported axis rest (omega (arith, fit, (head_form h is).declared.few)) (e ∙ ap (λ (t : List ℕ). t ++ rest) (append-nil (split_line axis))),
+  left_all (split_line axis ∷ []) 1 text rest back (node_reported h (split axis) is fit) refl e behind,
 )
-cut_split h (accept u x) rest text i back is fit e begun told behind = let no : true ≡ false = sym begun ∙ split_told h (accept u x) text rest e in absurd cc
-cut_split h (reject u r) rest text i back is fit e begun told behind = let no : true ≡ false = sym begun ∙ split_told h (reject u r) text rest e in absurd cc
-cut_split h unknown rest text i back is fit e begun told behind = let no : true ≡ false = sym begun ∙ split_told h unknown text rest e in absurd cc
+cut_split h (accept u x) rest text i back is fit e begun reported behind = let no : true ≡ false = sym begun ∙ split_reported h (accept u x) text rest e in absurd cc
+cut_split h (reject u r) rest text i back is fit e begun reported behind = let no : true ≡ false = sym begun ∙ split_reported h (reject u r) text rest e in absurd cc
+cut_split h unknown rest text i back is fit e begun reported behind = let no : true ≡ false = sym begun ∙ split_reported h unknown text rest e in absurd cc
 
 pub cut_open : (h : HeadData) (node : Node) (rest text back : List ℕ) → IsHead h → IsNode h node → text ≡ node_bytes h node ++ rest → begins text (codes "unknown") ≡ true → IsBehind 1 text back → IsOpenLeaf node × (back ≡ rest)
 unfolding is_open
-cut_open h (split axis) rest text back is fit e begun behind = let no : true ≡ false = sym begun ∙ open_told h (split axis) text rest e in absurd cc
-cut_open h (accept u x) rest text back is fit e begun behind = let no : true ≡ false = sym begun ∙ open_told h (accept u x) text rest e in absurd cc
-cut_open h (reject u r) rest text back is fit e begun behind = let no : true ≡ false = sym begun ∙ open_told h (reject u r) text rest e in absurd cc
-cut_open h unknown rest text back is fit e begun behind = (tt, left_all (unknown_line ∷ []) 1 text rest back (node_told h unknown is fit) refl e behind)
+cut_open h (split axis) rest text back is fit e begun behind = let no : true ≡ false = sym begun ∙ open_reported h (split axis) text rest e in absurd cc
+cut_open h (accept u x) rest text back is fit e begun behind = let no : true ≡ false = sym begun ∙ open_reported h (accept u x) text rest e in absurd cc
+cut_open h (reject u r) rest text back is fit e begun behind = let no : true ≡ false = sym begun ∙ open_reported h (reject u r) text rest e in absurd cc
+cut_open h unknown rest text back is fit e begun behind = (tt, left_all (unknown_line ∷ []) 1 text rest back (node_reported h unknown is fit) refl e behind)
 
 -- ---- a leaf that decides
 
 -- the lines of a leaf, behind that of its precision
 module _ (h : HeadData) (u : ℕ) (leaf : Lines) (text rest : List ℕ) (e : text ≡ concat (at_lines h.from u ++ leaf) ++ rest) (all : AllByRecursion IsTextLine (at_lines h.from u ++ leaf)) where
-  behind_told : (ahead : ℕ) (b : List ℕ) → ahead ≡ length (at_lines h.from u) → IsBehind ahead text b → b ≡ concat leaf ++ rest
-  behind_told ahead b count behind =
+  behind_reported : (ahead : ℕ) (b : List ℕ) → ahead ≡ length (at_lines h.from u) → IsBehind ahead text b → b ≡ concat leaf ++ rest
+  behind_reported ahead b count behind =
       let first = at_lines h.from u in
       left_all first ahead text (concat leaf ++ rest) b (every_front IsTextLine first leaf all) count (e ∙ ap (λ (t : List ℕ). t ++ rest) (concat-append first leaf) ∙ append_assoc (concat first) (concat leaf) rest) behind
 
-  cut_told : (n : ℕ) (front back : List ℕ) → n ≡ length (at_lines h.from u) + length leaf → front ≡ concat (take n (lines_of text)) → IsBehind n text back → (front ≡ concat (at_lines h.from u ++ leaf)) × (back ≡ rest)
-  cut_told n front back count before behind = cut_all (at_lines h.from u ++ leaf) n text rest front back all (omega (arith, count, length-append (at_lines h.from u) leaf)) e before behind
+  cut_reported : (n : ℕ) (front back : List ℕ) → n ≡ length (at_lines h.from u) + length leaf → front ≡ concat (take n (lines_of text)) → IsBehind n text back → (front ≡ concat (at_lines h.from u ++ leaf)) × (back ≡ rest)
+  cut_reported n front back count before behind = cut_all (at_lines h.from u ++ leaf) n text rest front back all (omega (arith, count, length-append (at_lines h.from u) leaf)) e before behind
 
 accept_ahead : (from : Option ℕ) (u : ℕ) (x : List ℤ) (more : List ℕ) → lines_ahead (first_key from (accept u x) ++ more) ≡ length (at_lines from u)
 unfolding first_key leaf_key
@@ -256,30 +256,30 @@ pub record IsLeafText (text : List ℕ) (ahead : ℕ) (b : List ℕ) (accepts : 
 pub cut_accept : (h : HeadData) (node : Node) (rest text : List ℕ) (ahead n : ℕ) (b front back : List ℕ) → IsHead h → IsNode h node → text ≡ node_bytes h node ++ rest → IsLeafText text ahead b true → n ≡ ahead + 1
     → front ≡ concat (take n (lines_of text)) → IsBehind n text back → IsAcceptOf h node front × (back ≡ rest)
 unfolding is_split is_open
-cut_accept h (split axis) rest text ahead n b front back is fit e leaf count before behind = let no : false ≡ true = sym leaf.split ∙ split_told h (split axis) text rest e in absurd cc
-cut_accept h unknown rest text ahead n b front back is fit e leaf count before behind = let no : false ≡ true = sym leaf.unknown ∙ open_told h unknown text rest e in absurd cc
+cut_accept h (split axis) rest text ahead n b front back is fit e leaf count before behind = let no : false ≡ true = sym leaf.split ∙ split_reported h (split axis) text rest e in absurd cc
+cut_accept h unknown rest text ahead n b front back is fit e leaf count before behind = let no : false ≡ true = sym leaf.unknown ∙ open_reported h unknown text rest e in absurd cc
 cut_accept h (accept u x) rest text ahead n b front back is fit e leaf count before behind =
     let one : length (accept_line x ∷ []) ≡ 1 = refl in
-    cut_told h u (accept_line x ∷ []) text rest e (node_told h (accept u x) is fit) n front back (omega (arith, count, leaf.ahead_is, accept_counted h u x text rest e, one)) before behind
+    cut_reported h u (accept_line x ∷ []) text rest e (node_reported h (accept u x) is fit) n front back (omega (arith, count, leaf.ahead_is, accept_counted h u x text rest e, one)) before behind
 cut_accept h (reject u r) rest text ahead n b front back is fit e leaf count before behind =
     let ls = reject_lines h.asked.model.init u r in
-    let b_is = behind_told h u ls text rest e (node_told h (reject u r) is fit) ahead b (leaf.ahead_is ∙ reject_counted h u r text rest e) leaf.behind in
+    let b_is = behind_reported h u ls text rest e (node_reported h (reject u r) is fit) ahead b (leaf.ahead_is ∙ reject_counted h u r text rest e) leaf.behind in
     let (more, begun) = reject_begins h.asked.model.init u r rest in
     let no : true ≡ false = sym leaf.accepts_is ∙ ap (λ (t : List ℕ). begins t (codes "accept")) (b_is ∙ begun) in absurd cc
 
 pub cut_reject : (h : HeadData) (node : Node) (rest text : List ℕ) (ahead n : ℕ) (b front back : List ℕ) → IsHead h → IsNode h node → text ≡ node_bytes h node ++ rest → IsLeafText text ahead b false → n ≡ ahead + 4
     → front ≡ concat (take n (lines_of text)) → IsBehind n text back → IsRejectOf h node front × (back ≡ rest)
 unfolding is_split is_open
-cut_reject h (split axis) rest text ahead n b front back is fit e leaf count before behind = let no : false ≡ true = sym leaf.split ∙ split_told h (split axis) text rest e in absurd cc
-cut_reject h unknown rest text ahead n b front back is fit e leaf count before behind = let no : false ≡ true = sym leaf.unknown ∙ open_told h unknown text rest e in absurd cc
+cut_reject h (split axis) rest text ahead n b front back is fit e leaf count before behind = let no : false ≡ true = sym leaf.split ∙ split_reported h (split axis) text rest e in absurd cc
+cut_reject h unknown rest text ahead n b front back is fit e leaf count before behind = let no : false ≡ true = sym leaf.unknown ∙ open_reported h unknown text rest e in absurd cc
 cut_reject h (accept u x) rest text ahead n b front back is fit e leaf count before behind =
     let ls = accept_line x ∷ [] in
-    let b_is = behind_told h u ls text rest e (node_told h (accept u x) is fit) ahead b (leaf.ahead_is ∙ accept_counted h u x text rest e) leaf.behind in
+    let b_is = behind_reported h u ls text rest e (node_reported h (accept u x) is fit) ahead b (leaf.ahead_is ∙ accept_counted h u x text rest e) leaf.behind in
     let (more, begun) = accept_begins x rest in
     let no : false ≡ true = sym leaf.accepts_is ∙ ap (λ (t : List ℕ). begins t (codes "accept")) (b_is ∙ begun) in absurd cc
 cut_reject h (reject u r) rest text ahead n b front back is fit e leaf count before behind =
     let four : length (reject_lines h.asked.model.init u r) ≡ 4 = refl in
-    cut_told h u (reject_lines h.asked.model.init u r) text rest e (node_told h (reject u r) is fit) n front back (omega (arith, count, leaf.ahead_is, reject_counted h u r text rest e, four)) before behind
+    cut_reported h u (reject_lines h.asked.model.init u r) text rest e (node_reported h (reject u r) is fit) n front back (omega (arith, count, leaf.ahead_is, reject_counted h u r text rest e, four)) before behind
 
 -- ---- the parameter of a split
 
@@ -295,8 +295,8 @@ split_words axis rest text len low e is =
 
 -- the words behind the first one begin with the number
 second_given : (key : List ℕ) (n : ℕ) (ws behind : List (List ℕ)) (word : List ℕ) → n < most_parameters → ws ≡ number_words key n → first ws ≡ Ok (word, behind) → first_of number_of behind ≡ Some (pos n, [])
-second_given key n ws behind word low is told =
-    let parts : (word, behind) ≡ (key, decimal n ∷ []) = ok_is (word, behind) (key, decimal n ∷ []) (sym told ∙ ap first is) in
+second_given key n ws behind word low is reported =
+    let parts : (word, behind) ≡ (key, decimal n ∷ []) = ok_is (word, behind) (key, decimal n ∷ []) (sym reported ∙ ap first is) in
     let behind_is : behind ≡ decimal n ∷ [] = ap (λ (p : List ℕ × List (List ℕ)). p.1) parts in
     ap (first_of number_of) behind_is ∙ ap (option_map (λ (z : ℤ). (z, []))) (number_again (pos n) (omega (arith, low)))
 
@@ -305,28 +305,28 @@ some_is x y e = cc
 
 pub second_is : (key : List ℕ) (n : ℕ) (ws behind : List (List ℕ)) (word : List ℕ) (z : ℤ) (more : List (List ℕ)) (number : Option ℤ) → n < most_parameters → ws ≡ number_words key n → first ws ≡ Ok (word, behind) → Some (z, more) ≡ first_of number_of behind
     → IfSome number (λ m. m ≡ z) → IfNone number (2 ^ 100 ≤ unsigned_abs z) → number ≡ Some (pos n)
-second_is key n ws behind word z more number low is told given some none = by number some none
+second_is key n ws behind word z more number low is reported given some none = by number some none
   where
     z_is : z ≡ pos n
-    z_is = ap (λ (p : ℤ × List (List ℕ)). p.0) (some_is (z, more) (pos n, []) (given ∙ second_given key n ws behind word low is told))
+    z_is = ap (λ (p : ℤ × List (List ℕ)). p.0) (some_is (z, more) (pos n, []) (given ∙ second_given key n ws behind word low is reported))
 
     by : (number : Option ℤ) → IfSome number (λ m. m ≡ z) → IfNone number (2 ^ 100 ≤ unsigned_abs z) → number ≡ Some (pos n)
     by (Some m) some none = ap (λ (y : ℤ). Some y) (some ∙ z_is)
     by None some none = let size : unsigned_abs z ≡ n = ap unsigned_abs z_is in absurd (omega (arith, none, size, low))
 
 pub second_lost : (key : List ℕ) (n : ℕ) (ws behind : List (List ℕ)) (word : List ℕ) → n < most_parameters → ws ≡ number_words key n → first ws ≡ Ok (word, behind) → None ≡ first_of number_of behind → ⊥
-second_lost key n ws behind word low is told given = let no : ◌≡◌ {A = Option (ℤ × List (List ℕ))} None (Some (pos n, [])) = given ∙ second_given key n ws behind word low is told in absurd cc
+second_lost key n ws behind word low is reported given = let no : ◌≡◌ {A = Option (ℤ × List (List ℕ))} None (Some (pos n, [])) = given ∙ second_given key n ws behind word low is reported in absurd cc
 
 -- what was found on the line of a split
-pub axis_told : (text : List ℕ) (len : ℕ) (number : Option ℤ) (axis : ℕ) (rest : List ℕ) → len ≡ position_or_len is_feed text → ((key : List ℕ) (n : ℕ) → n < most_parameters → words (take len text) ≡ number_words key n → number ≡ Some (pos n)) → axis < most_parameters
+pub axis_reported : (text : List ℕ) (len : ℕ) (number : Option ℤ) (axis : ℕ) (rest : List ℕ) → len ≡ position_or_len is_feed text → ((key : List ℕ) (n : ℕ) → n < most_parameters → words (take len text) ≡ number_words key n → number ≡ Some (pos n)) → axis < most_parameters
     → text ≡ split_line axis ++ rest → number ≡ Some (pos axis)
-axis_told text len number axis rest is told low e = told (codes "split") axis low (split_words axis rest text len low e is)
+axis_reported text len number axis rest is reported low e = reported (codes "split") axis low (split_words axis rest text len low e is)
 
 pub axis_is : (z : ℤ) (axis : ℕ) (number : Option ℤ) → number ≡ Some z → number ≡ Some (pos axis) → z ≡ pos axis
-axis_is z axis number is told = some_is z (pos axis) (sym is ∙ told)
+axis_is z axis number is reported = some_is z (pos axis) (sym is ∙ reported)
 
 pub never_lost : (axis : ℕ) (number : Option ℤ) → number ≡ None → number ≡ Some (pos axis) → ⊥
-never_lost axis number none told = let no : None ≡ Some (pos axis) = sym none ∙ told in absurd cc
+never_lost axis number none reported = let no : None ≡ Some (pos axis) = sym none ∙ reported in absurd cc
 
 pub never_below : (z : ℤ) (axis : ℕ) → z ≡ pos axis → int_le (pos 0) z ≡ false → ⊥
 never_below z axis is test = let no : true ≡ false = sym (test_from_le (pos 0) (pos axis) (omega (arith, linear))) ∙ ap (int_le (pos 0)) (sym is) ∙ test in absurd cc
@@ -337,7 +337,7 @@ never_above z top axis is top_is low test = let no : true ≡ false = sym (test_
 -- ---- the head
 
 -- the lines of a head are those of its top, and those that tell the region
-head_parted : (h : HeadData) → told_lines h ≡ top_lines h.asked h.from h.bound ++ region_lines h.asked
+head_parted : (h : HeadData) → reported_lines h ≡ top_lines h.asked h.from h.bound ++ region_lines h.asked
 head_parted h =
     let model = model_lines h.asked.model in
     let asked = asked_lines h.asked h.bound in
@@ -350,17 +350,17 @@ unfolding scale_lines
 three_lines k = refl
 
 -- a head that begins a text is cut into its top and its region
-pub head_behind : (h : HeadData) (n : ℕ) (text rest top region left : List ℕ) → IsHead h → text ≡ concat (told_lines h) ++ rest → n ≡ length (told_lines h) → top ≡ concat (take (n - 3) (lines_of text)) → IsBehind (n - 3) text region → IsBehind 3 region left
+pub head_behind : (h : HeadData) (n : ℕ) (text rest top region left : List ℕ) → IsHead h → text ≡ concat (reported_lines h) ++ rest → n ≡ length (reported_lines h) → top ≡ concat (take (n - 3) (lines_of text)) → IsBehind (n - 3) text region → IsBehind 3 region left
     → (top ≡ top_bytes h) × (left ≡ rest)
 head_behind h n text rest top region left is e count top_is below behind =
     let first = top_lines h.asked h.from h.bound in
     let last = region_lines h.asked in
     let three = three_lines h.asked in
-    let told = subst (λ (ls : Lines). AllByRecursion IsTextLine ls) (head_parted h) (head_told h is) in
+    let reported = subst (λ (ls : Lines). AllByRecursion IsTextLine ls) (head_parted h) (head_reported h is) in
     let whole : text ≡ concat first ++ (concat last ++ rest) = e ∙ ap (λ (ls : Lines). concat ls ++ rest) (head_parted h) ∙ ap (λ (t : List ℕ). t ++ rest) (concat-append first last) ∙ append_assoc (concat first) (concat last) rest in
     let lines : n ≡ length first + length last = count ∙ ap (λ (ls : Lines). length ls) (head_parted h) ∙ length-append first last in
-    let cut = cut_all first (n - 3) text (concat last ++ rest) top region (every_front IsTextLine first last told) (omega (arith, lines, three)) whole top_is below in
-    (cut.0, left_all last 3 region rest left (every_back IsTextLine first last told) (sym three) cut.1 behind)
+    let cut = cut_all first (n - 3) text (concat last ++ rest) top region (every_front IsTextLine first last reported) (omega (arith, lines, three)) whole top_is below in
+    (cut.0, left_all last 3 region rest left (every_back IsTextLine first last reported) (sym three) cut.1 behind)
 
 -- what was read of a text's head, and as many lines as were given
 head_cut : EndsWithin {S = List ℕ} (λ s. Some s) (λ _. 0) → (text window : List ℕ) (c : LinesData) (u : List ℕ) (head : HeadData) (n : ℕ) (top region left : List ℕ) → length text < 2 ^ 32
@@ -370,10 +370,10 @@ head_cut within text window c u head n top region left small f keeps counted giv
     let ends = within (length text) window c text u f.bytes f.ran keeps in
     let whole : text ≡ f.bytes ++ u = f.ran.took.consumed in
     let read : head_at (1, f.bytes ++ u) ≡ Ok (head, place c u) = f.agrees u ends.1 in
-    let same : (head, place c u) ≡ (h, (1 + length (told_lines h), rest)) = ok_is (head, place c u) (h, (1 + length (told_lines h), rest)) (sym read ∙ ap (λ (t : List ℕ). head_at (1, t)) (sym whole ∙ e) ∙ heads_back h 1 rest is) in
+    let same : (head, place c u) ≡ (h, (1 + length (reported_lines h), rest)) = ok_is (head, place c u) (h, (1 + length (reported_lines h), rest)) (sym read ∙ ap (λ (t : List ℕ). head_at (1, t)) (sym whole ∙ e) ∙ heads_back h 1 rest is) in
     let least : c.taken ≤ c.limit = subst (λ (o : Option LineError). KeepsLimit o c.limit c.taken) f.ran.left_with keeps in
     let most = f.ran.took.limit in
-    let count : c.given + 1 ≡ 1 + length (told_lines h) = ap (λ (y : HeadData × Cursor). y.1.0) same in
+    let count : c.given + 1 ≡ 1 + length (reported_lines h) = ap (λ (y : HeadData × Cursor). y.1.0) same in
     let parts = head_behind h n text rest top region left is e (omega (arith, given, least, counted, most, small, count)) top_is below behind in
     (ap (λ (y : HeadData × Cursor). y.0) same, parts.0, parts.1)
 

@@ -8,7 +8,7 @@ use Rattle.lift_frac.specs.Gcd.{gcd}
 use Rattle.std.specs.Fmt.{digits}
 use Rattle.lift_grid.specs.Tree.Tree.{accept as accepted}
 use Rattle.cert_text.specs.Head.{HeadData, head_at, from_at, state_at, states_at, behind_first, row_at, entries_at, further_at}
-use Rattle.cert_text.specs.Nodes.{accept, node_at, second_by, decided_by, told_at, accept_at, unknown_at}
+use Rattle.cert_text.specs.Nodes.{accept, node_at, second_by, decided_by, reported_at, accept_at, unknown_at}
 use Rattle.cert_text.specs.Report.{size_lines, row_line, asked_lines, scale_lines, report_text}
 use Rattle.cert_text.proofs.ReadSamples.{coin, coin_lines}
 
@@ -38,7 +38,7 @@ unfolding coin_lines gcd head_at from_at state_at states_at behind_first row_at 
 from_above = refl
 
 leaf_read : node_at ranged (21, codes "at 3\naccept 4 8 0\n") ≡ Ok (accept 3 (pos 4 ∷ pos 8 ∷ pos 0 ∷ []), (23, []))
-unfolding ranged coin node_at second_by told_at decided_by accept_at due line_at
+unfolding ranged coin node_at second_by reported_at decided_by accept_at due line_at
 leaf_read = refl
 
 at_missing : node_at ranged (21, codes "accept 4 8 0\n") ≡ fault 21 Syntax
@@ -46,21 +46,21 @@ unfolding ranged coin node_at second_by unknown_at due line_at
 at_missing = refl
 
 at_below : node_at ranged (21, codes "at 1\naccept 1 2 0\n") ≡ fault 21 Limit
-unfolding ranged coin node_at second_by told_at due line_at
+unfolding ranged coin node_at second_by reported_at due line_at
 at_below = refl
 
 at_above : node_at ranged (21, codes "at 5\naccept 4 8 0\n") ≡ fault 21 Limit
-unfolding ranged coin node_at second_by told_at due line_at
+unfolding ranged coin node_at second_by reported_at due line_at
 at_above = refl
 
 unknown_at_a_precision : node_at ranged (21, codes "at 3\nunknown\n") ≡ fault 22 Syntax
-unfolding ranged coin node_at second_by told_at decided_by due line_at
+unfolding ranged coin node_at second_by reported_at decided_by due line_at
 unknown_at_a_precision = refl
 
 number_above_its_precision : node_at ranged (21, codes "at 3\naccept 4 9 0\n") ≡ fault 22 Limit
-unfolding ranged coin node_at second_by told_at decided_by accept_at due line_at
+unfolding ranged coin node_at second_by reported_at decided_by accept_at due line_at
 number_above_its_precision = refl
 
 cut_behind_at : node_at ranged (21, codes "at 3\n") ≡ fault 22 Truncated
-unfolding ranged coin node_at second_by told_at due line_at
+unfolding ranged coin node_at second_by reported_at due line_at
 cut_behind_at = refl

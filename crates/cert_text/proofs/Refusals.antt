@@ -346,21 +346,21 @@ rejecting_whole : node_at coin (20, codes "reject e 1 k 1 m 1 b 7/32\ny 7 16 0\n
 unfolding coin node_at node_by accept_at reject_at rejecting_at split_at unknown_at due line_at
 rejecting_whole = refl
 
-pick_of_the_goal : node_at coin (20, codes "reject e 1 k 1 m 1 b 7/16\ny 7 16 0\nchoice 0 0 -\nrank 1 0 -\n") ≡ fault 20 Syntax
+choice_of_the_goal : node_at coin (20, codes "reject e 1 k 1 m 1 b 7/16\ny 7 16 0\nchoice 0 0 -\nrank 1 0 -\n") ≡ fault 20 Syntax
 unfolding coin node_at node_by accept_at reject_at rejecting_at split_at unknown_at due line_at
-pick_of_the_goal = refl
+choice_of_the_goal = refl
 
-no_pick_of_a_ranked : node_at coin (20, codes "reject e 1 k 1 m 1 b 7/16\ny 7 16 0\nchoice - - -\nrank 1 0 -\n") ≡ fault 20 Syntax
+no_choice_of_a_ranked : node_at coin (20, codes "reject e 1 k 1 m 1 b 7/16\ny 7 16 0\nchoice - - -\nrank 1 0 -\n") ≡ fault 20 Syntax
 unfolding coin node_at node_by accept_at reject_at rejecting_at split_at unknown_at due line_at
-no_pick_of_a_ranked = refl
+no_choice_of_a_ranked = refl
 
 rank_zero : node_at coin (20, codes "reject e 1 k 1 m 1 b 7/16\ny 7 16 0\nchoice 0 - 0\nrank 1 0 0\n") ≡ fault 20 Syntax
 unfolding coin node_at node_by accept_at reject_at rejecting_at split_at unknown_at due line_at
 rank_zero = refl
 
-pick_out : node_at coin (20, codes "reject e 1 k 1 m 1 b 7/16\ny 7 16 0\nchoice 1 - -\nrank 1 0 -\n") ≡ fault 22 Limit
+choice_out : node_at coin (20, codes "reject e 1 k 1 m 1 b 7/16\ny 7 16 0\nchoice 1 - -\nrank 1 0 -\n") ≡ fault 22 Limit
 unfolding coin node_at node_by accept_at reject_at rejecting_at split_at unknown_at due line_at
-pick_out = refl
+choice_out = refl
 
 rank_out : node_at coin (20, codes "reject e 1 k 1 m 1 b 7/16\ny 7 16 0\nchoice 0 - -\nrank 2 0 -\n") ≡ fault 23 Limit
 unfolding coin node_at node_by accept_at reject_at rejecting_at split_at unknown_at due line_at

@@ -14,7 +14,7 @@ use Rattle.cert_text.proofs.Inverting.{Lines, Anything, Inverts, Then, Done, inv
 use Rattle.cert_text.proofs.HeadLaws.{HeadForm, inverts_head}
 use Rattle.std.proofs.lemmas.List.{length-append}
 use Rattle.std.proofs.lemmas.List.Folds.{concat-append}
-use Rattle.cert_text.specs.Laws.{told_lines, text_of, line_count, HeadsAreReadBack, ReadHeadsAreTold, NodesAreReadBack, ReadNodesAreTold, ReportsAreReadBack, ReadReportsAreTold, TextsTellOneReport, PrefixesAreTruncated}
+use Rattle.cert_text.specs.Laws.{reported_lines, text_of, line_count, HeadsAreReadBack, ReadHeadsAreReported, NodesAreReadBack, ReadNodesAreReported, ReportsAreReadBack, ReadReportsAreReported, TextsTellOneReport, PrefixesAreTruncated}
 use Rattle.cert_text.proofs.HeadForms.{head_form, form_head}
 use Rattle.cert_text.specs.Forms.{IsTree}
 use Rattle.cert_text.specs.Whole.{height, branch_at, tree_at, report_at}
@@ -109,24 +109,24 @@ inverts_report levels =
 -- ---- the laws
 
 pub heads_back : HeadsAreReadBack
-heads_back h n rest k = inverts_head.again n h (told_lines h) rest (refl, head_form h k) tt
+heads_back h n rest k = inverts_head.again n h (reported_lines h) rest (refl, head_form h k) tt
 
-pub heads_told : ReadHeadsAreTold
-heads_told h n m text rest e = let t = inverts_head.takes n m text rest h e in
+pub heads_reported : ReadHeadsAreReported
+heads_reported h n m text rest e = let t = inverts_head.takes n m text rest h e in
     (form_head h t.1.1, t.2 ∙ ap (λ (ls : Lines). concat ls ++ rest) t.1.0, t.3 ∙ ap (λ (ls : Lines). n + length ls) t.1.0)
 
 pub nodes_back : NodesAreReadBack
 nodes_back h node n rest k fit = (inverts_node h (head_form h k)).again n node (node_lines h.from h.asked.model.init node) rest (refl, fit) tt
 
-pub nodes_told : ReadNodesAreTold
-nodes_told h node n m text rest k e = let t = (inverts_node h (head_form h k)).takes n m text rest node e in
+pub nodes_reported : ReadNodesAreReported
+nodes_reported h node n m text rest k e = let t = (inverts_node h (head_form h k)).takes n m text rest node e in
     (t.1.1, t.2 ∙ ap (λ (ls : Lines). concat ls ++ rest) t.1.0, t.3 ∙ ap (λ (ls : Lines). n + length ls) t.1.0)
 
 whole_text : (h : HeadData) (t : Tree) → concat (report_lines h t) ≡ text_of h t
-whole_text h t = concat-append (told_lines h) (tree_lines h.from h.asked.model.init t)
+whole_text h t = concat-append (reported_lines h) (tree_lines h.from h.asked.model.init t)
 
 whole_count : (h : HeadData) (t : Tree) → length (report_lines h t) ≡ line_count h t
-whole_count h t = length-append (told_lines h) (tree_lines h.from h.asked.model.init t)
+whole_count h t = length-append (reported_lines h) (tree_lines h.from h.asked.model.init t)
 
 pub reports_back : ReportsAreReadBack
 reports_back h t levels rest fit low =
@@ -134,8 +134,8 @@ reports_back h t levels rest fit low =
     ∙ (inverts_report levels).again 1 (h, t) (report_lines h t) rest (refl, head_form h fit.head, fit.nodes, low) tt
     ∙ ap (λ k. Ok ((h, t), (1 + k, rest))) (whole_count h t)
 
-pub reports_told : ReadReportsAreTold
-reports_told h t levels m text rest e = let r = (inverts_report levels).takes 1 m text rest (h, t) e in (
+pub reports_reported : ReadReportsAreReported
+reports_reported h t levels m text rest e = let r = (inverts_report levels).takes 1 m text rest (h, t) e in (
   record { head = form_head h r.1.1; nodes = r.1.2 },
   r.1.3,
   r.2 ∙ ap (λ (ls : Lines). concat ls ++ rest) r.1.0 ∙ ap (λ x. x ++ rest) (whole_text h t),

@@ -194,9 +194,9 @@ skip : (ls more : Lines) → AreShared ls → precision_in (ls ++ more) ≡ prec
 skip [] more all = refl
 skip (l ∷ ls) more (one, all) = ap (λ (b : Bool). cond b (drop 10 l) (precision_in (ls ++ more))) one.other ∙ skip ls more all
 
-told_precision : (k : CaseData) (bound : Bound) (more : Lines) → precision_in (head_lines k None bound ++ more) ≡ number_line k.w
+reported_precision : (k : CaseData) (bound : Bound) (more : Lines) → precision_in (head_lines k None bound ++ more) ≡ number_line k.w
 unfolding asked_lines number_line
-told_precision k bound more =
+reported_precision k bound more =
     let rest = asked_lines k bound ++ (scale_lines k ++ box_line k.root ∷ []) in
     ap precision_in (append_assoc (model_lines k.model) rest more)
     ∙ skip (model_lines k.model) (rest ++ more) (shared_model k.model)
@@ -223,7 +223,7 @@ second_text old new m =
     let text : old ≡ concat ls = m.before ∙ ap (λ (f : Option ℕ). report_text h.asked f h.bound t) m.first ∙ sym (concat-append (head_lines h.asked None h.bound) (tree_lines None h.asked.model.init t)) in
     let cut : lines_of old ≡ ls = ap lines_of text ∙ lines_counted ls becomes.ended feeds in
     ap (λ (xs : Lines). flat_map (second_line (precision_in xs)) xs) cut
-    ∙ ap (λ (p : List ℕ). flat_map (second_line p) ls) (told_precision h.asked h.bound (tree_lines None h.asked.model.init t))
+    ∙ ap (λ (p : List ℕ). flat_map (second_line p) ls) (reported_precision h.asked h.bound (tree_lines None h.asked.model.init t))
     ∙ becomes.second
     ∙ concat-append (head_lines h.asked (Some h.asked.w) h.bound) (tree_lines (Some h.asked.w) h.asked.model.init t)
     ∙ sym m.after

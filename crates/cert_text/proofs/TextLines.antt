@@ -59,26 +59,26 @@ IsEnded l = (t : List ℕ) × (l ≡ t ++ 10 ∷ [])
 abbrev pub IsTextLine : List ℕ → Type 0
 IsTextLine l = (t : List ℕ) × NoFeed t × (l ≡ t ++ 10 ∷ [])
 
-cut_told : (t rest : List ℕ) → NoFeed t → lines_of (t ++ 10 ∷ rest) ≡ (t ++ 10 ∷ []) ∷ lines_of rest
-cut_told [] rest clean = refl
-cut_told (b ∷ t) rest clean = rw clean.0 (ap (onto_first b) (cut_told t rest clean.1))
+cut_reported : (t rest : List ℕ) → NoFeed t → lines_of (t ++ 10 ∷ rest) ≡ (t ++ 10 ∷ []) ∷ lines_of rest
+cut_reported [] rest clean = refl
+cut_reported (b ∷ t) rest clean = rw clean.0 (ap (onto_first b) (cut_reported t rest clean.1))
 
-lines_told : (ls : List (List ℕ)) → AllByRecursion IsTextLine ls → lines_of (concat ls) ≡ ls
-lines_told [] all = refl
-lines_told (l ∷ ls) ((t, clean, is), all) =
+lines_reported : (ls : List (List ℕ)) → AllByRecursion IsTextLine ls → lines_of (concat ls) ≡ ls
+lines_reported [] all = refl
+lines_reported (l ∷ ls) ((t, clean, is), all) =
     ap (λ (x : List ℕ). lines_of (x ++ concat ls)) is
     ∙ ap lines_of (append_assoc t (10 ∷ []) (concat ls))
-    ∙ cut_told t (concat ls) clean
-    ∙ ap₂ (λ (x : List ℕ) (xs : List (List ℕ)). x ∷ xs) (sym is) (lines_told ls all)
+    ∙ cut_reported t (concat ls) clean
+    ∙ ap₂ (λ (x : List ℕ) (xs : List (List ℕ)). x ∷ xs) (sym is) (lines_reported ls all)
 
 -- where told lines begin a text, they are its first lines
-pub lines_ahead_told : (ls : List (List ℕ)) (rest : List ℕ) → AllByRecursion IsTextLine ls → lines_of (concat ls ++ rest) ≡ ls ++ lines_of rest
-lines_ahead_told [] rest all = refl
-lines_ahead_told (l ∷ ls) rest ((t, clean, is), all) =
+pub lines_ahead_reported : (ls : List (List ℕ)) (rest : List ℕ) → AllByRecursion IsTextLine ls → lines_of (concat ls ++ rest) ≡ ls ++ lines_of rest
+lines_ahead_reported [] rest all = refl
+lines_ahead_reported (l ∷ ls) rest ((t, clean, is), all) =
     ap (λ (x : List ℕ). lines_of ((x ++ concat ls) ++ rest)) is
     ∙ ap lines_of (append_assoc (t ++ 10 ∷ []) (concat ls) rest ∙ append_assoc t (10 ∷ []) (concat ls ++ rest))
-    ∙ cut_told t (concat ls ++ rest) clean
-    ∙ ap₂ (λ (x : List ℕ) (xs : List (List ℕ)). x ∷ xs) (sym is) (lines_ahead_told ls rest all)
+    ∙ cut_reported t (concat ls ++ rest) clean
+    ∙ ap₂ (λ (x : List ℕ) (xs : List (List ℕ)). x ∷ xs) (sym is) (lines_ahead_reported ls rest all)
 
 concat_onto : (b : ℕ) (ls : List (List ℕ)) → concat (onto_first b ls) ≡ b ∷ concat ls
 concat_onto b [] = refl
@@ -118,4 +118,4 @@ one_each (l ∷ ls) ((t, is), all) e =
     ((t, none_counted t (omega (arith, e, whole, own, more)), is), one_each ls all (omega (arith, e, whole, own, more)))
 
 pub lines_counted : (ls : List (List ℕ)) → AllByRecursion IsEnded ls → feed_count (concat ls) ≡ length ls → lines_of (concat ls) ≡ ls
-lines_counted ls all e = lines_told ls (one_each ls all e)
+lines_counted ls all e = lines_reported ls (one_each ls all e)

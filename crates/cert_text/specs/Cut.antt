@@ -6,7 +6,7 @@ use Rattle.lift_base.specs.Lines.{LinesData, KeepsLimit, fresh}
 use Rattle.line_text.specs.Follow.{Follows}
 use Rattle.cert_text.specs.Head.{HeadData, head_at}
 use Rattle.cert_text.specs.Forms.{IsHead, IsNode}
-use Rattle.cert_text.specs.Laws.{told_lines}
+use Rattle.cert_text.specs.Laws.{reported_lines}
 use Rattle.cert_text.specs.Migrated.{lines_of}
 use Rattle.cert_text.specs.Report.{top_lines}
 use Rattle.cert_text.specs.Nodes.{Node, split, accept, reject, unknown, node_lines}
@@ -67,7 +67,7 @@ top_bytes h = concat (top_lines h.asked h.from h.bound)
 
 -- Whichever head begins the text, it is read, its lines above the last three are cut off, and what follows it is left.
 abbrev pub CutsHead : List ℕ → HeadData → List ℕ → List ℕ → Type 0
-CutsHead text head top left = (h : HeadData) (rest : List ℕ) → IsHead h → text ≡ concat (told_lines h) ++ rest → (head ≡ h) × (top ≡ top_bytes h) × (left ≡ rest)
+CutsHead text head top left = (h : HeadData) (rest : List ℕ) → IsHead h → text ≡ concat (reported_lines h) ++ rest → (head ≡ h) × (top ≡ top_bytes h) × (left ≡ rest)
 
 -- Where a head was read of a text in memory, what stands behind the lines that had been given then is what follows the head; the last three of them stand behind the others.
 abbrev pub HeadsAreCut : Type 0

@@ -28,7 +28,7 @@ pub record IsSmallEntry (entry : Entry) : Type 0 where
   pub parameters : count_ones (polynomial.support entry.poly) ≤ most_row_parameters
 
 -- a bound whose parts are told: a fraction in lowest terms from 0 to 1, with a small denominator
-pub record IsToldBound (bound : Bound) : Type 0 where
+pub record IsReportedBound (bound : Bound) : Type 0 where
   pub parts : IsBound (record { num = bound.num; den = bound.den })
   pub small : bound.den < 2 ^ 32
 
@@ -37,7 +37,7 @@ pub record IsHead (h : HeadData) : Type 0 where
   pub asked : IsAsked h.asked
   pub names : All IsShortName h.asked.model.names
   pub entries : All (All (All IsSmallEntry)) h.asked.model.states
-  pub bound : IsToldBound h.bound
+  pub bound : IsReportedBound h.bound
   pub range : (1 ≤ least_precision h) × (least_precision h ≤ h.asked.w)
 
 -- ---- the nodes
@@ -48,7 +48,7 @@ AreMarks [] [] = Unit {0}
 AreMarks (end ∷ ends) (mark ∷ marks) = ((mark ≡ unmarked) ⊎ (mark < end)) × AreMarks ends marks
 AreMarks _ _ = ⊥
 
--- what a rejecting leaf tells: a number, a pick of a choice or none, and a rank or none for each state, and the numbers of its rate
+-- what a rejecting leaf tells: a number, a chosen row or none, and a rank or none for each state, and the numbers of its rate
 pub record IsReject (k : CaseData) (r : RejectData) : Type 0 where
   pub numbers : AreNumbers k r.numbers
   pub picks : AreMarks (map length k.model.states) r.picks

@@ -13,16 +13,16 @@ use Rattle.cert_text.specs.Forms.{IsHead, IsNode, IsReport}
 -- ---- a head
 
 -- the lines of a head
-abbrev pub told_lines : HeadData → List (List ℕ)
-told_lines h = head_lines h.asked h.from h.bound
+abbrev pub reported_lines : HeadData → List (List ℕ)
+reported_lines h = head_lines h.asked h.from h.bound
 
 -- a head is read back from its lines, whatever follows them
 abbrev pub HeadsAreReadBack : Type 0
-HeadsAreReadBack = (h : HeadData) (n : ℕ) (rest : List ℕ) → IsHead h → head_at (n, concat (told_lines h) ++ rest) ≡ Ok (h, (n + length (told_lines h), rest))
+HeadsAreReadBack = (h : HeadData) (n : ℕ) (rest : List ℕ) → IsHead h → head_at (n, concat (reported_lines h) ++ rest) ≡ Ok (h, (n + length (reported_lines h), rest))
 
 -- where a head is read, it is one, and its lines begin the text
-abbrev pub ReadHeadsAreTold : Type 0
-ReadHeadsAreTold = (h : HeadData) (n m : ℕ) (text rest : List ℕ) → head_at (n, text) ≡ Ok (h, (m, rest)) → IsHead h × (text ≡ concat (told_lines h) ++ rest) × (m ≡ n + length (told_lines h))
+abbrev pub ReadHeadsAreReported : Type 0
+ReadHeadsAreReported = (h : HeadData) (n m : ℕ) (text rest : List ℕ) → head_at (n, text) ≡ Ok (h, (m, rest)) → IsHead h × (text ≡ concat (reported_lines h) ++ rest) × (m ≡ n + length (reported_lines h))
 
 -- ---- a node
 
@@ -32,8 +32,8 @@ NodesAreReadBack = (h : HeadData) (node : Node) (n : ℕ) (rest : List ℕ) → 
     → node_at h (n, concat (node_lines h.from h.asked.model.init node) ++ rest) ≡ Ok (node, (n + length (node_lines h.from h.asked.model.init node), rest))
 
 -- where a node is read, it is one of the report, and its lines begin the text
-abbrev pub ReadNodesAreTold : Type 0
-ReadNodesAreTold = (h : HeadData) (node : Node) (n m : ℕ) (text rest : List ℕ) → IsHead h → node_at h (n, text) ≡ Ok (node, (m, rest))
+abbrev pub ReadNodesAreReported : Type 0
+ReadNodesAreReported = (h : HeadData) (node : Node) (n m : ℕ) (text rest : List ℕ) → IsHead h → node_at h (n, text) ≡ Ok (node, (m, rest))
     → IsNode h node × (text ≡ concat (node_lines h.from h.asked.model.init node) ++ rest) × (m ≡ n + length (node_lines h.from h.asked.model.init node))
 
 -- ---- a report
@@ -44,7 +44,7 @@ text_of h tree = report_text h.asked h.from h.bound tree
 
 -- how many lines a report has
 abbrev pub line_count : HeadData → Tree → ℕ
-line_count h tree = length (told_lines h) + length (tree_lines h.from h.asked.model.init tree)
+line_count h tree = length (reported_lines h) + length (tree_lines h.from h.asked.model.init tree)
 
 -- a report is read back from its text, whatever follows it
 abbrev pub ReportsAreReadBack : Type 0
@@ -52,8 +52,8 @@ ReportsAreReadBack = (h : HeadData) (tree : Tree) (levels : ℕ) (rest : List �
     → report_at levels (1, text_of h tree ++ rest) ≡ Ok ((h, tree), (1 + line_count h tree, rest))
 
 -- where a report is read, it is one, and its text begins the text
-abbrev pub ReadReportsAreTold : Type 0
-ReadReportsAreTold = (h : HeadData) (tree : Tree) (levels m : ℕ) (text rest : List ℕ) → report_at levels (1, text) ≡ Ok ((h, tree), (m, rest))
+abbrev pub ReadReportsAreReported : Type 0
+ReadReportsAreReported = (h : HeadData) (tree : Tree) (levels m : ℕ) (text rest : List ℕ) → report_at levels (1, text) ≡ Ok ((h, tree), (m, rest))
     → IsReport h tree × (height tree ≤ levels) × (text ≡ text_of h tree ++ rest) × (m ≡ 1 + line_count h tree)
 
 -- Two reports whose texts begin the same text are the same, and so is what follows them. So two reports with the same text are equal, and no report's text is a proper prefix of another's.

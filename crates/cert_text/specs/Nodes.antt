@@ -25,7 +25,7 @@ abbrev pub begins : List ℕ → List (List ℕ) → Bool
 begins key [] = false
 begins key (word ∷ words) = bytes_eq word key
 
--- A state's pick and rank stand where they may: a goal state has rank 0 and no pick, a state without rank has no pick, and any other has a pick and a rank above 0.
+-- A state's chosen row and rank stand where they may: a goal state has rank 0 and no chosen row, a state without rank has no chosen row, and any other has a chosen row and a rank above 0.
 abbrev pub fits_state : Bool → ℕ → ℕ → Bool
 fits_state true pick rank = pick == unmarked && rank == 0
 fits_state false pick rank = if rank == unmarked then pick == unmarked else not (rank == 0) && not (pick == unmarked)
@@ -92,8 +92,8 @@ decided_by h words c =
     ]
 
 -- a decided leaf behind the line of its precision, which is due
-unfoldable pub told_at : HeadData → Reader Node
-told_at h c = do
+unfoldable pub reported_at : HeadData → Reader Node
+reported_at h c = do
   u ← line_at (number_in (codes "at") (least_precision h) (h.asked.w + 1)) c
   l ← due u.1
   decided_by (at_precision u.0 h) (words l.0) u.1
@@ -104,7 +104,7 @@ second_by h words c =
     elim (begins (codes "split") words) [
       | true ↦ split_at h c
       | false ↦ elim (begins (codes "at") words) [
-        | true ↦ told_at h c
+        | true ↦ reported_at h c
         | false ↦ unknown_at c
       ]
     ]

@@ -157,7 +157,7 @@ head_lines k from bound =
 
 -- ---- the nodes
 
--- a rank or a pick, or `-` for none
+-- a rank or a chosen row, or `-` for none
 abbrev pub mark_word : ℕ → List ℕ
 mark_word m = if m == unmarked then codes "-" else decimal m
 
@@ -167,7 +167,7 @@ reject_words e k y z =
     codes "reject" ∷ codes "e" ∷ decimal e ∷ codes "k" ∷ decimal k ∷ codes "m" ∷ decimal (e * k)
     ∷ codes "b" ∷ (signed_decimal y ++ code "/" ∷ decimal z) ∷ []
 
--- a rejecting leaf, at a precision: its first line, then the number, the pick and the rank of each state
+-- a rejecting leaf, at a precision: its first line, then the number, the chosen row and the rank of each state
 abbrev pub reject_lines : ℕ → ℕ → RejectData → List (List ℕ)
 reject_lines init u r =
     line (reject_words r.e r.k (number r.numbers init) (2 ^ u))

@@ -124,7 +124,7 @@ impl Head {
     }
 
     /// The least precision, where the report tells it.
-    pub fn told_from(&self) -> Option<u32>
+    pub fn reported_from(&self) -> Option<u32>
         ensures { result ≡ self.now.from }
     {
         self.precisions.from

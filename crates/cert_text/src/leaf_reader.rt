@@ -7,7 +7,7 @@ ghost use Rattle.line_text.specs.Reading.{line_at};
 ghost use Rattle.line_text.specs.Words.{words};
 ghost use Rattle.line_text.specs.declared.error.TextCause.TheVariants.{Syntax};
 ghost use Rattle.line_text.specs.declared.error.FileError.TheVariants as file;
-ghost use Rattle.line_text.specs.Follow.{Follows, told_fault};
+ghost use Rattle.line_text.specs.Follow.{Follows, reported_fault};
 ghost use Rattle.lift_cert.specs.RejectMiss.{most_height};
 ghost use Rattle.corner_lift.specs.Case.{most_precision};
 ghost use Rattle.corner_lift.specs.Certificate.{most_rate};
@@ -161,8 +161,8 @@ impl<'h> LeafReader<'h> {
             && fit_states(model, picks, ranks)
     }
 
-    /// The line that is due, as the pick of each state.
-    fn picks_line<S: Source>(&self, lines: &mut Lines, src: &mut S) -> Result<Vec<u32>, FileError>
+    /// The line that is due, as the chosen row of each state.
+    fn choices_line<S: Source>(&self, lines: &mut Lines, src: &mut S) -> Result<Vec<u32>, FileError>
         ensures value { Follows S.left S.faults (λ x. x.items)
             (line_at (marks_of (codes "choice") (map length self.now.asked.model.states)))
             lines.old lines.new src.old src.new result }
@@ -200,13 +200,13 @@ impl<'h> LeafReader<'h> {
     ) -> Result<Node, FileError>
         requires e { rejected.now.e ≤ most_rate }
         requires k { rejected.now.k ≤ most_height }
-        requires misfit { misfit ≡ file.Text (told_fault (record { line = lines.old.given; cause = Syntax })) }
+        requires misfit { misfit ≡ file.Text (reported_fault (record { line = lines.old.given; cause = Syntax })) }
         ensures { Follows S.left S.faults node_of (rejecting_at self.now (rejected_of rejected.now))
             lines.old lines.new src.old src.new result }
     {
         calls_add_up::<S>();
         let y = self.values_line(lines, src, b"y")?;
-        let picks = self.picks_line(lines, src)?;
+        let picks = self.choices_line(lines, src)?;
         let ranks = self.ranks_line(lines, src, rejected.k)?;
         if !self.fits_leaf(rejected, &y, &picks, &ranks) {
             return Err(misfit);

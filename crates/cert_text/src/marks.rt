@@ -159,7 +159,7 @@ pub(crate) fn marks_of(
     marks(alloc, rest, ends)
 }
 
-/// Whether a state's pick and rank stand where they may.
+/// Whether a state's chosen row and rank stand where they may.
 fn fits_state(goal: bool, pick: u32, rank: u32) -> bool
     ensures { result ≡ fits_state goal pick rank }
 {
@@ -172,7 +172,7 @@ fn fits_state(goal: bool, pick: u32, rank: u32) -> bool
     }
 }
 
-/// Whether each state's pick and rank stand where they may.
+/// Whether each state's chosen row and rank stand where they may.
 pub(crate) fn fit_states(model: &Model, picks: &[u32], ranks: &[u32]) -> bool
     requires picks { length picks.now ≡ length model.now.states }
     requires ranks { length ranks.now ≡ length model.now.states }

@@ -113,7 +113,7 @@ fn write_numbers<K: Sink>(out: &mut K, y: &[i64]) -> Result<(), WriteFault>
     )
 }
 
-/// Writes a rejecting leaf: its rate, and the number, the pick and the rank of each state, `u32::MAX`
+/// Writes a rejecting leaf: its rate, and the number, the chosen row and the rank of each state, `u32::MAX`
 /// standing for none. Takes no memory.
 pub fn write_reject<K: Sink>(
     out: &mut K,

@@ -8,7 +8,7 @@ ghost use Rattle.line_text.specs.Words.{words};
 ghost use Rattle.line_text.specs.Follow.{Follows};
 ghost use Rattle.cert_text.specs.Lines.{unknown_of};
 ghost use Rattle.cert_text.specs.Nodes.{begins, split_at, unknown_at, node_at};
-ghost use Rattle.cert_text.specs.Nodes.{node_by, told_at, second_by, node_in};
+ghost use Rattle.cert_text.specs.Nodes.{node_by, reported_at, second_by, node_in};
 ghost use Rattle.line_text.specs.Shown.{Says};
 ghost use Rattle.cert_text.specs.Leaf.{node_of};
 
@@ -32,7 +32,7 @@ pub enum Node {
         u: u32,
         x: Values,
     },
-    /// A rejecting leaf, with its precision, its rate, and the number, the pick and the rank of each
+    /// A rejecting leaf, with its precision, its rate, and the number, the chosen row and the rank of each
     /// state, `u32::MAX` standing for none.
     Reject {
         u: u32,
@@ -125,13 +125,13 @@ fn node_by<S: Source>(
 }
 
 /// The decided leaf behind the line of its precision, which is due.
-fn told_at<S: Source>(
+fn reported_at<S: Source>(
     alloc: Global,
     lines: &mut Lines,
     src: &mut S,
     head: &Head,
 ) -> Result<Node, FileError>
-    ensures { Follows S.left S.faults node_of (told_at head.now) lines.old lines.new src.old src.new result }
+    ensures { Follows S.left S.faults node_of (reported_at head.now) lines.old lines.new src.old src.new result }
 {
     calls_add_up::<S>();
     let low = u64::from(head.from());
@@ -155,7 +155,7 @@ fn second_by<S: Source>(
     if begins(lines.line(), b"split") {
         split_at(alloc, lines, src, head)
     } else if begins(lines.line(), b"at") {
-        told_at(alloc, lines, src, head)
+        reported_at(alloc, lines, src, head)
     } else {
         unknown_at(lines, src)
     }
@@ -173,7 +173,7 @@ fn node_in<S: Source>(
         (node_in head.now head.now.from (words (before_first is_feed lines.old.held)))
         lines.old lines.new src.old src.new result }
 {
-    match head.told_from() {
+    match head.reported_from() {
         None => node_by(alloc, lines, src, head),
         Some(_) => second_by(alloc, lines, src, head),
     }

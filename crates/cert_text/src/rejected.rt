@@ -34,7 +34,7 @@ fn named<'t>(words: &Words<'t>, key: &[u8]) -> Result<(&'t [u8], Words<'t>), Tex
 }
 
 /// What these numbers tell of a rejecting leaf, where e and k are in their ranges.
-fn told<'t>(
+fn reported<'t>(
     e: Decimal,
     k: Decimal,
     m: Decimal<'t>,
@@ -82,5 +82,5 @@ pub(crate) fn reject_of<'t>(words: &Words<'t>) -> Result<Rejected<'t>, TextCause
     if !rest.is_empty() {
         return Err(TextCause::Syntax);
     }
-    told(e, k, m, y, z)
+    reported(e, k, m, y, z)
 }

@@ -35,11 +35,11 @@ pub record IsLeastUpper (k : CaseData) (spans : Spans) (x : List ℤ) : Type 0 w
   pub upper : IsUpper k spans x
   pub least : (y : List ℤ) → IsUpper k spans y → AtMost x y
 
--- in place of a rank or of a pick where a state has none; far above the number of states, so that ranks can always be numbered below it
+-- in place of a rank or of a chosen row where a state has none; far above the number of states, so that ranks can always be numbered below it
 abbrev pub unmarked : ℕ
 unmarked = 2 ^ 32 - 1
 
--- the rank or the pick of a state
+-- the rank or the chosen row of a state
 abbrev pub mark : List ℕ → ℕ → ℕ
 mark marks s = slice_index_or marks s unmarked
 
@@ -48,26 +48,26 @@ abbrev pub ranked_below : (ℕ → ℕ) → ℕ → ℕ → ℤ
 ranked_below rank r s = if nat_lt (rank s) r then pos 1 else pos 0
 
 -- the row that a state picks
-abbrev pub picked_row : CaseData → RejectData → ℕ → List Entry
-picked_row k r s = row_at k.model s (mark r.picks s)
+abbrev pub chosen_row : CaseData → RejectData → ℕ → List Entry
+chosen_row k r s = row_at k.model s (mark r.picks s)
 
 -- at each corner of the picked row the weight into states of lower rank, times 2 ^ e, is at least the whole
 abbrev pub IsRate : CaseData → Spans → RejectData → ℕ → ℕ → Type 0
-IsRate k spans r e s = let row = picked_row k r s in
+IsRate k spans r e s = let row = chosen_row k r s in
     AtCorners spans row (λ c. whole k.model k.d spans row ≤ℤ (corner_sum k.d spans row c (ranked_below (mark r.ranks) (mark r.ranks s)) *ℤ pos (2 ^ e)))
 
--- A ranked state's pick holds it: at each corner of the row the weighted mean is at least the state's number, and the weight into states of lower rank is enough.
+-- A ranked state's chosen row holds it: at each corner of the row the weighted mean is at least the state's number, and the weight into states of lower rank is enough.
 pub record IsHeld (k : CaseData) (spans : Spans) (r : RejectData) (s : ℕ) : Type 0 where
   pub rank : (1 ≤ mark r.ranks s) × (mark r.ranks s ≤ r.k)
   pub pick : mark r.picks s < length (choices k.model s)
-  pub means : MeansAtLeast k spans (picked_row k r s) (number r.numbers) (number r.numbers s)
+  pub means : MeansAtLeast k spans (chosen_row k r s) (number r.numbers) (number r.numbers s)
   pub rates : IsRate k spans r r.e s
 
 -- the greatest e, by our own profile: a weight that isn't 0 is at least 1, and the whole is below 2 ^ 126
 abbrev pub most_rate : ℕ
 most_rate = 126
 
--- A lower vector: 2 ^ w on goal states, whose rank is 0; 0 on states without rank; and each other state is held by its pick.
+-- A lower vector: 2 ^ w on goal states, whose rank is 0; 0 on states without rank; and each other state is held by its chosen row.
 pub record IsLower (k : CaseData) (spans : Spans) (r : RejectData) : Type 0 where
   pub numbers : AreNumbers k r.numbers
   pub sizes : (length r.picks ≡ length k.model.states) × (length r.ranks ≡ length k.model.states)

@@ -15,18 +15,18 @@ IsAllowed k spans y s a = MeansAtLeast k spans (row_at k.model s a) y (y s)
 abbrev pub LeadsBelow : CaseData → Spans → (ℕ → ℕ) → ℕ → ℕ → ℕ → Type 0
 LeadsBelow k spans rank r s a = let row = row_at k.model s a in AtCorners spans row (λ c. pos 0 <ℤ corner_sum k.d spans row c (ranked_below rank r))
 
--- a state's pick is the least allowed choice that leads into the stages before the state's rank
-pub record IsPicked (k : CaseData) (spans : Spans) (allowed : ℕ → ℕ → Type 0) (pick rank : ℕ → ℕ) (s : ℕ) : Type 0 where
+-- a state's chosen row is the least allowed choice that leads into the stages before the state's rank
+pub record IsChosen (k : CaseData) (spans : Spans) (allowed : ℕ → ℕ → Type 0) (pick rank : ℕ → ℕ) (s : ℕ) : Type 0 where
   pub later : 1 ≤ rank s
   pub in_range : pick s < length (choices k.model s)
   pub is_allowed : allowed s (pick s)
   pub leads : LeadsBelow k spans rank (rank s) s (pick s)
   pub least : (a : ℕ) → a < pick s → allowed s a → LeadsBelow k spans rank (rank s) s a → ⊥
 
--- ranks and picks by stages: rank 0 on goal states, and elsewhere the number of the first stage that has the state
+-- ranks and choices by stages: rank 0 on goal states, and elsewhere the number of the first stage that has the state
 pub record AreStages (k : CaseData) (spans : Spans) (allowed : ℕ → ℕ → Type 0) (pick rank : ℕ → ℕ) : Type 0 where
   pub goal : (s : ℕ) → is_goal k.model s ≡ true → rank s ≡ 0
-  pub picked : (s : ℕ) → is_goal k.model s ≡ false → rank s < unmarked → IsPicked k spans allowed pick rank s
+  pub chosen : (s : ℕ) → is_goal k.model s ≡ false → rank s < unmarked → IsChosen k spans allowed pick rank s
   -- no allowed choice leads into the stages before sooner
   pub first : (s : ℕ) → is_goal k.model s ≡ false → (a r : ℕ) → a < length (choices k.model s) → allowed s a → r < unmarked → LeadsBelow k spans rank r s a → rank s ≤ r
 
@@ -34,7 +34,7 @@ pub record AreStages (k : CaseData) (spans : Spans) (allowed : ℕ → ℕ → T
 abbrev pub IsAboveLower : CaseData → Spans → (ℕ → ℤ) → Type 0
 IsAboveLower k spans z = (r : RejectData) → IsLower k spans r → (s : ℕ) → number r.numbers s ≤ℤ z s
 
--- the lower vector that is greatest at each state, with the ranks and picks of its stages, and the least e and k that these allow
+-- the lower vector that is greatest at each state, with the ranks and choices of its stages, and the least e and k that these allow
 pub record IsGreatestLower (k : CaseData) (spans : Spans) (r : RejectData) : Type 0 where
   pub holds : IsLower k spans r
   pub greatest : IsAboveLower k spans (number r.numbers)

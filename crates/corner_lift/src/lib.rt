@@ -1,4 +1,5 @@
-//! What rows weigh at the corners of a rectangle, and the certificates that rest on it.
+//! What rows weigh at the corners of a rectangle (parameter lifting, row by row: a corner is a vertex of the region),
+//! and the certificates that rest on it (inductive bounds: pre- and post-fixed points of the Bellman operator).
 #![tactic(auto)]
 
 mod case;

@@ -1,4 +1,5 @@
-//! Values: what they mean, and their expansion into a polynomial over one denominator.
+//! Values (expressions over the parameters): what they mean, and their expansion into a polynomial over one
+//! denominator.
 #![tactic(auto)]
 
 mod error;

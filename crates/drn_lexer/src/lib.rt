@@ -1,5 +1,5 @@
-//! The lines of a model text, the words of a line and the symbols of a value, each as a span of the
-//! text. No call takes memory.
+//! The lines of a model text, the words of a line and the symbols (tokens) of a value, each as a span of the text. No
+//! call takes memory.
 #![tactic(auto)]
 
 mod bytes;

@@ -109,9 +109,9 @@ abbrev answer : PolyError → Result (List Term) PolyError
 answer e = Err e
 
 -- a coefficient of size 2^125 has size 2^100 too
-pub wide_told : (ts : List Term) (e : PolyError) (cause : DrnCause) → (answer e ≢ answer poly.Memory → answer e ≡ narrow ts) → (e ≡ poly.Memory → cause ≡ Memory) → (e ≢ poly.Memory → cause ≡ CommonDenominator)
+pub wide_reported : (ts : List Term) (e : PolyError) (cause : DrnCause) → (answer e ≢ answer poly.Memory → answer e ≡ narrow ts) → (e ≡ poly.Memory → cause ≡ Memory) → (e ≢ poly.Memory → cause ≡ CommonDenominator)
     → cause ≢ Memory → when (list_any is_over ts) CommonDenominator ≡ Some cause
-wide_told ts e cause given memory wide safe =
+wide_reported ts e cause given memory wide safe =
     let not_memory : e ≢ poly.Memory = λ is. safe (memory is) in
     let large : list_any is_over ts ≡ true = any_weaker is_wide is_over ts wide_is_over (narrow_wide ts e (given (λ is. not_memory (err_same e poly.Memory is)))) in
     rw large (ap Some (sym (wide not_memory)))

@@ -4,7 +4,7 @@ use Rattle.std.specs.Prelude.{is_none}
 use Rattle.std.proofs.lemmas.Bool.{both_ways}
 use Rattle.lift_costs.specs.Costs.{CostData}
 use Rattle.lift_model.specs.Model.{ModelData}
-use Rattle.drn_read.specs.Faults.{when, told}
+use Rattle.drn_read.specs.Faults.{when, reported}
 use Rattle.drn_read.specs.Reading.{end_fault, model}
 use Rattle.drn_read.specs.Costs.{Asked, CostSaid, cost_said, place_of, is_common, cost_end_fault, cost_ended, drn_costs}
 use Rattle.drn_read.specs.CostShown.{asked_of}
@@ -14,7 +14,7 @@ use Rattle.drn_read.specs.declared.error.DrnError.{DrnError}
 
 -- the test whether the reward is known
 abbrev pub unknown : ℕ → CostSaid → Option DrnError
-unknown number s = told number (when (is_none (place_of s.rewards)) UnknownReward)
+unknown number s = reported number (when (is_none (place_of s.rewards)) UnknownReward)
 
 -- where no other test fails
 pub fault_none : (number : ℕ) (s : CostSaid) → end_fault number s.said ≡ None → unknown number s ≡ None → cost_end_fault number s ≡ None

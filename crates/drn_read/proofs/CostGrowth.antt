@@ -11,7 +11,7 @@ use Rattle.lift_costs.specs.Costs.{CostData}
 use Rattle.drn_lexer.specs.Cutting.{pieces_behind}
 use Rattle.drn_lexer.specs.Lines.{TextLine, content, is_blank_line, is_comment}
 use Rattle.drn_lexer.specs.Words.{words}
-use Rattle.drn_read.specs.Faults.{told}
+use Rattle.drn_read.specs.Faults.{reported}
 use Rattle.drn_read.specs.Parts.{Part, parts}
 use Rattle.drn_read.specs.Sections.{section_at, section_of, is_head, is_section, said_in, sections, phase_of, phase_behind}
 use Rattle.drn_read.specs.Judging.{Said, line_fault}
@@ -239,7 +239,7 @@ cost_said_is asked lines = refl
 
 -- a line without fault has none without its rewards
 calm : (s : CostSaid) (l : TextLine) → cost_line_fault s l ≡ None → line_fault s.said l ≡ None
-calm s l e = (first_none (line_fault s.said l) [] (first_none (told l.number (line_rewards_fault s l)) (line_fault s.said l ∷ []) e).1).0
+calm s l e = (first_none (line_fault s.said l) [] (first_none (reported l.number (line_rewards_fault s l)) (line_fault s.said l ∷ []) e).1).0
 
 -- a line without fault that is no comment
 pub cost_grows : (asked : Asked) (before : List TextLine) (line : TextLine) → is_comment line ≡ false → cost_line_fault (cost_said asked before) line ≡ None

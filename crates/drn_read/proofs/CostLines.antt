@@ -7,7 +7,7 @@ use Rattle.drn_lexer.specs.Cutting.{Piece}
 use Rattle.drn_lexer.specs.Lines.{TextLine, content}
 use Rattle.drn_lexer.specs.Words.{WordKind, words}
 use Rattle.lift_bytes.specs.Bytes.{first_passes}
-use Rattle.drn_read.specs.Faults.{first_of, told}
+use Rattle.drn_read.specs.Faults.{first_of, reported}
 use Rattle.drn_read.specs.Sections.{Header, is_head}
 use Rattle.drn_read.specs.States.{StateText, is_transition}
 use Rattle.drn_read.specs.Judging.{Said, line_fault}
@@ -28,7 +28,7 @@ use Rattle.drn_read.specs.declared.section.Phase.{Phase}
 use Rattle.drn_read.specs.declared.section.Phase.TheVariants as phase
 use Rattle.drn_read.proofs.CostGrowth.{tells, quiet}
 use Rattle.drn_read.proofs.Stated.{words_digit}
-use Rattle.drn_read.proofs.Declared.{told_none}
+use Rattle.drn_read.proofs.Declared.{reported_none}
 
 alone : (o : Option DrnError) → first_of (o ∷ []) ≡ o
 alone None = refl
@@ -36,19 +36,19 @@ alone (Some fault) = refl
 
 -- a line without fault of its rewards is judged as without them
 pub calm_rewards : (s : CostSaid) (source : TextLine) → line_rewards_fault s source ≡ None → cost_line_fault s source ≡ line_fault s.said source
-calm_rewards s source e = ap (λ (o : Option DrnCause). first_of (told source.number o ∷ line_fault s.said source ∷ [])) e ∙ alone (line_fault s.said source)
+calm_rewards s source e = ap (λ (o : Option DrnCause). first_of (reported source.number o ∷ line_fault s.said source ∷ [])) e ∙ alone (line_fault s.said source)
 
-pub told_as_ever : (r : Result (Unit {0}) DrnError) (s : CostSaid) (source : TextLine) → line_rewards_fault s source ≡ None → TellsLine r (line_fault s.said source) → TellsLine r (cost_line_fault s source)
-told_as_ever r s source e h = subst (TellsLine r) (sym (calm_rewards s source e)) h
+pub reported_as_ever : (r : Result (Unit {0}) DrnError) (s : CostSaid) (source : TextLine) → line_rewards_fault s source ≡ None → TellsLine r (line_fault s.said source) → TellsLine r (cost_line_fault s source)
+reported_as_ever r s source e h = subst (TellsLine r) (sym (calm_rewards s source e)) h
 
 -- a fault of rewards is told first
-pub told_first : (s : CostSaid) (source : TextLine) (error : DrnError) → told source.number (line_rewards_fault s source) ≡ Some error → cost_line_fault s source ≡ Some error
-told_first s source error e = ap (λ (o : Option DrnError). first_of (o ∷ line_fault s.said source ∷ [])) e
+pub reported_first : (s : CostSaid) (source : TextLine) (error : DrnError) → reported source.number (line_rewards_fault s source) ≡ Some error → cost_line_fault s source ≡ Some error
+reported_first s source error e = ap (λ (o : Option DrnError). first_of (o ∷ line_fault s.said source ∷ [])) e
 
 -- the same of a line, where the cause alone was told
-pub told_on_line : (r : Result (Unit {0}) DrnCause) (number line : ℕ) (fault : Option DrnCause) → number ≡ line → Tells r fault → TellsLine (on_line number r) (told line fault)
-told_on_line (Ok x) number line fault e h = ap (told line) h
-told_on_line (Err cause) number line fault e h = λ ne. ap (told line) (h ne) ∙ ap (λ (n : ℕ). Some (record { line = n; cause = cause })) (sym e)
+pub reported_on_line : (r : Result (Unit {0}) DrnCause) (number line : ℕ) (fault : Option DrnCause) → number ≡ line → Tells r fault → TellsLine (on_line number r) (reported line fault)
+reported_on_line (Ok x) number line fault e h = ap (reported line) h
+reported_on_line (Err cause) number line fault e h = λ ne. ap (reported line) (h ne) ∙ ap (λ (n : ℕ). Some (record { line = n; cause = cause })) (sym e)
 
 pub ok_gives : (r : Result (Unit {0}) DrnError) (P Q : Type 0) → OnOk r P → (P → Q) → OnOk r Q
 ok_gives (Ok x) P Q p step = step p
@@ -93,14 +93,14 @@ pub in_model : (s : CostSaid) (source : TextLine) → s.said.header.phase ≡ ph
 in_model s source e = rw e refl
 
 -- what is told of the rewards of a line, by what is left of it
-pub model_told : (s : CostSaid) (source : TextLine) (cursor : Cursor) → IsSource cursor source → s.said.header.phase ≡ phase.Model
-    → told source.number (line_rewards_fault s source) ≡ told source.number (words_rewards_fault (length s.rewards.names) s.said.header s.said.states (words (rest cursor)))
-model_told s source cursor spans e =
-    ap (told source.number) (in_model s source e ∙ ap (λ (text : List ℕ). words_rewards_fault (length s.rewards.names) s.said.header s.said.states (words text)) (sym spans.says))
+pub model_reported : (s : CostSaid) (source : TextLine) (cursor : Cursor) → IsSource cursor source → s.said.header.phase ≡ phase.Model
+    → reported source.number (line_rewards_fault s source) ≡ reported source.number (words_rewards_fault (length s.rewards.names) s.said.header s.said.states (words (rest cursor)))
+model_reported s source cursor spans e =
+    ap (reported source.number) (in_model s source e ∙ ap (λ (text : List ℕ). words_rewards_fault (length s.rewards.names) s.said.header s.said.states (words text)) (sym spans.says))
 
 pub model_calm : (s : CostSaid) (source : TextLine) (cursor : Cursor) → IsSource cursor source → s.said.header.phase ≡ phase.Model
-    → told source.number (words_rewards_fault (length s.rewards.names) s.said.header s.said.states (words (rest cursor))) ≡ None → line_rewards_fault s source ≡ None
-model_calm s source cursor spans e f = told_none source.number (line_rewards_fault s source) (model_told s source cursor spans e ∙ f)
+    → reported source.number (words_rewards_fault (length s.rewards.names) s.said.header s.said.states (words (rest cursor))) ≡ None → line_rewards_fault s source ≡ None
+model_calm s source cursor spans e f = reported_none source.number (line_rewards_fault s source) (model_reported s source cursor spans e ∙ f)
 
 pub model_after : (label : List ℕ) (s : CostSaid) (read : Said) (kept : Rewards) (source : TextLine) (cursor : Cursor) → IsSource cursor source → s.said.header.phase ≡ phase.Model
     → read ≡ with_line label s.said source → kept ≡ with_reward_words s.rewards (words (rest cursor)) → record { said = read; rewards = kept } ≡ with_cost_line label s source
@@ -133,17 +133,17 @@ transition_after label s read source cursor spans e f g =
 
 -- ---- elsewhere
 
-none_told : (s : CostSaid) (source : TextLine) (p : Phase) → s.said.header.phase ≡ p → tells p ≡ false → line_rewards_fault s source ≡ None
-none_told s source phase.Sections e f = rw e refl
-none_told s source phase.NameList e f = rw e refl
-none_told s source phase.RewardList e f = absurd (both_ways true f refl)
-none_told s source phase.StateCount e f = rw e refl
-none_told s source phase.ChoiceCount e f = rw e refl
-none_told s source phase.Placeholders e f = rw e refl
-none_told s source phase.Model e f = absurd (both_ways true f refl)
+none_reported : (s : CostSaid) (source : TextLine) (p : Phase) → s.said.header.phase ≡ p → tells p ≡ false → line_rewards_fault s source ≡ None
+none_reported s source phase.Sections e f = rw e refl
+none_reported s source phase.NameList e f = rw e refl
+none_reported s source phase.RewardList e f = absurd (both_ways true f refl)
+none_reported s source phase.StateCount e f = rw e refl
+none_reported s source phase.ChoiceCount e f = rw e refl
+none_reported s source phase.Placeholders e f = rw e refl
+none_reported s source phase.Model e f = absurd (both_ways true f refl)
 
 pub other_calm : (s : CostSaid) (source : TextLine) → tells s.said.header.phase ≡ false → line_rewards_fault s source ≡ None
-other_calm s source f = none_told s source s.said.header.phase refl f
+other_calm s source f = none_reported s source s.said.header.phase refl f
 
 pub other_after : (label : List ℕ) (s : CostSaid) (read : Said) (source : TextLine) → tells s.said.header.phase ≡ false
     → read ≡ with_line label s.said source → record { said = read; rewards = s.rewards } ≡ with_cost_line label s source

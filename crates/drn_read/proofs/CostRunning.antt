@@ -7,7 +7,7 @@ use Rattle.drn_read.specs.Reading.{said, last_number, end_fault, ended, drn}
 use Rattle.drn_read.specs.Costs.{Asked, CostSaid, cost_said, cost_line_fault, judge_costs, first_cost_fault, cost_ended, drn_costs}
 use Rattle.drn_read.specs.CostKeeping.{with_cost_line}
 use Rattle.drn_read.specs.declared.error.DrnError.{DrnError}
-use Rattle.drn_read.proofs.FirstFault.{Way, or_else, judged}
+use Rattle.drn_read.proofs.FirstFault.{Semantics, or_else, judged}
 use Rattle.drn_read.proofs.CostGrowth.{cost_grows, cost_skips}
 use Rattle.drn_read.proofs.CostSame.{none_before}
 use Rattle.drn_read.proofs.Loop.{AllRead}
@@ -30,7 +30,7 @@ judges asked before l None true e f = rw (judge_costs, e, f) refl
 judges asked before l None false e f = rw (judge_costs, e, f) refl
 
 -- a model with the costs that are asked for
-abbrev pub costed : Asked → Way CostSaid
+abbrev pub costed : Asked → Semantics CostSaid
 costed asked = record {
   said = cost_said asked;
   line_fault = cost_line_fault;

@@ -8,7 +8,7 @@ use Rattle.lift_costs.specs.Costs.{CostData}
 use Rattle.lift_model.specs.Model.{ModelData}
 use Rattle.drn_lexer.specs.Lines.{TextLine, lines, own_fault, is_comment}
 use Rattle.drn_lexer.specs.declared.error.LexError.{LexError}
-use Rattle.drn_read.specs.Faults.{first_of, lexed, told}
+use Rattle.drn_read.specs.Faults.{first_of, lexed, reported}
 use Rattle.drn_read.specs.Parts.{Part, parts}
 use Rattle.drn_read.specs.Sections.{Placeholder, sections, names, placeholders, said_in, gather}
 use Rattle.drn_read.specs.States.{model_line, model_lines, is_state, state}
@@ -27,8 +27,8 @@ last_of_two a b e = (first_none b [] (first_none a (b ∷ []) e).1).0
 
 -- a line without a fault has none without its rewards
 by_own : (o : Option LexError) (c : Bool) (r f : Option DrnError) (n : ℕ)
-    → ◌≡◌ {A = Option DrnError} (elim o [ Some fault ↦ told n (Some (lexed fault)) | None ↦ if c then None else first_of (r ∷ f ∷ []) ]) None
-    → ◌≡◌ {A = Option DrnError} (elim o [ Some fault ↦ told n (Some (lexed fault)) | None ↦ if c then None else f ]) None
+    → ◌≡◌ {A = Option DrnError} (elim o [ Some fault ↦ reported n (Some (lexed fault)) | None ↦ if c then None else first_of (r ∷ f ∷ []) ]) None
+    → ◌≡◌ {A = Option DrnError} (elim o [ Some fault ↦ reported n (Some (lexed fault)) | None ↦ if c then None else f ]) None
 by_own (Some fault) c r f n e = cc
 by_own None true r f n e = refl
 by_own None false r f n e = last_of_two r f e
@@ -36,7 +36,7 @@ by_own None false r f n e = last_of_two r f e
 judged : (asked : Asked) (before : List TextLine) (line : TextLine) → judge_costs asked before line ≡ None → judge asked.label before line ≡ None
 unfolding judge_costs judge cost_said
 judged asked before line e =
-    by_own (own_fault line) (is_comment line) (told line.number (line_rewards_fault (cost_said asked before) line)) (line_fault (said asked.label before) line) line.number e
+    by_own (own_fault line) (is_comment line) (reported line.number (line_rewards_fault (cost_said asked before) line)) (line_fault (said asked.label before) line) line.number e
 
 by_line : (a b x y : Option DrnError) → (a ≡ None → b ≡ None) → (x ≡ None → y ≡ None)
     → ◌≡◌ {A = Option DrnError} (elim a [ Some fault ↦ Some fault | None ↦ x ]) None → ◌≡◌ {A = Option DrnError} (elim b [ Some fault ↦ Some fault | None ↦ y ]) None

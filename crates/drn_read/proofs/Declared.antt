@@ -18,7 +18,7 @@ use Rattle.drn_expr.specs.RatPolys.{OverOne, IsOver}
 use Rattle.drn_expr.specs.declared.error.ExprError.{ExprError}
 use Rattle.lift_poly.specs.Arithmetic.{support}
 use Rattle.drn_read.specs.Laws.{IsShortName}
-use Rattle.drn_read.specs.Faults.{when, first_of, fault_of, valued, told}
+use Rattle.drn_read.specs.Faults.{when, first_of, fault_of, valued, reported}
 use Rattle.lift_bytes.specs.Bytes.{is_name}
 use Rattle.drn_read.specs.Text.{most_value_parameters, with_few_parameters, value_of}
 use Rattle.drn_read.specs.Sections.{Header, Placeholder, is_head, section_of, placeholder_name, placeholder_value, placeholder}
@@ -48,9 +48,9 @@ pub fault_none : {A : Type 0} (r : Result A DrnCause) → fault_of r ≡ None �
 fault_none (Ok x) e = (x, refl)
 fault_none (Err cause) e = cc
 
-pub told_none : (number : ℕ) (cause : Option DrnCause) → told number cause ≡ None → cause ≡ None
-told_none number None e = refl
-told_none number (Some cause) e = cc
+pub reported_none : (number : ℕ) (cause : Option DrnCause) → reported number cause ≡ None → cause ≡ None
+reported_none number None e = refl
+reported_none number (Some cause) e = cc
 
 -- ---- values
 

@@ -22,7 +22,7 @@ use Rattle.lift_model.specs.declared.entry.Entry.{Entry}
 use Rattle.lift_model.specs.Model.{ModelData}
 use Rattle.lift_model.specs.Valid.{common_limit}
 use Rattle.drn_read.specs.Sections.{Header}
-use Rattle.drn_read.specs.Faults.{first_of, when, told}
+use Rattle.drn_read.specs.Faults.{first_of, when, reported}
 use Rattle.drn_read.specs.States.{StateText}
 use Rattle.drn_read.specs.Parts.{last}
 use Rattle.drn_read.specs.Judging.{choiceless}
@@ -98,10 +98,10 @@ all_outside count states =
     ∙ outside_found count (all_transitions states)
 
 -- how a target that is no state is told
-pub target_told : (o : Option Transition) (line : Option ℕ) → line ≡ option_map (λ t. t.line) o
+pub target_reported : (o : Option Transition) (line : Option ℕ) → line ≡ option_map (λ t. t.line) o
     → option_map {U = DrnError} (λ (n : ℕ). record { line = n; cause = TargetRange }) line ≡ option_map {U = DrnError} (λ t. record { line = t.line; cause = TargetRange }) o
-target_told None line e = rw e refl
-target_told (Some t) line e = rw e refl
+target_reported None line e = rw e refl
+target_reported (Some t) line e = rw e refl
 
 none_found : (o : Option Transition) → None ≡ option_map (λ t. t.line) o → o ≡ None
 none_found None e = refl
@@ -201,22 +201,22 @@ last_is (x ∷ y ∷ xs) d h =
     let e : length (x ∷ y ∷ xs) - 1 ≡ suc (length (y ∷ xs) - 1) = omega arith in
     rest ∙ ap (λ (k : ℕ). Some (get_or (x ∷ y ∷ xs) k d)) (sym e)
 
-abbrev told_if : Bool → ℕ → Option DrnError
-told_if true line = Some (record { line = line; cause = NoChoice })
-told_if false line = None
+abbrev reported_if : Bool → ℕ → Option DrnError
+reported_if true line = Some (record { line = line; cause = NoChoice })
+reported_if false line = None
 
 no_rows : {R : Type 0} (f : R → List Transition) (line : ℕ) (i g : Bool) (rows : List R)
-    → choiceless ((record { line = line; init = i; goal = g; choices = map f rows }) ∷ []) ≡ told_if (length rows == 0) line
+    → choiceless ((record { line = line; init = i; goal = g; choices = map f rows }) ∷ []) ≡ reported_if (length rows == 0) line
 no_rows f line i g [] = refl
-no_rows f line i g (r ∷ rows) = let e : (length (r ∷ rows) == 0) ≡ false = grind (arith, nat_tests) in ap (λ (b : Bool). told_if b line) (sym e)
+no_rows f line i g (r ∷ rows) = let e : (length (r ∷ rows) == 0) ≡ false = grind (arith, nat_tests) in ap (λ (b : Bool). reported_if b line) (sym e)
 
 only_last : (states : List StateText) (s : StateText) → last states ≡ Some s → choiceless states ≡ choiceless (s ∷ [])
 only_last states s e = rw e refl
 
-pub last_told : {R : Type 0} (f : R → List Transition) (states : List StateText) (s : StateText) (line : ℕ) (i g : Bool) (rows : List R) (b : Bool)
-    → 1 ≤ length states → s ≡ get_or states (length states - 1) s → record { line = line; init = i; goal = g; choices = map f rows } ≡ s → (length rows == 0) ≡ b → told_if b line ≡ choiceless states
-last_told f states s line i g rows b h at view e =
-    sym (only_last states s (last_is states s h ∙ ap Some (sym at)) ∙ ap (λ (t : StateText). choiceless (t ∷ [])) (sym view) ∙ no_rows f line i g rows ∙ ap (λ (b : Bool). told_if b line) e)
+pub last_reported : {R : Type 0} (f : R → List Transition) (states : List StateText) (s : StateText) (line : ℕ) (i g : Bool) (rows : List R) (b : Bool)
+    → 1 ≤ length states → s ≡ get_or states (length states - 1) s → record { line = line; init = i; goal = g; choices = map f rows } ≡ s → (length rows == 0) ≡ b → reported_if b line ≡ choiceless states
+last_reported f states s line i g rows b h at view e =
+    sym (only_last states s (last_is states s h ∙ ap Some (sym at)) ∙ ap (λ (t : StateText). choiceless (t ∷ [])) (sym view) ∙ no_rows f line i g rows ∙ ap (λ (b : Bool). reported_if b line) e)
 
 -- ---- the last test
 
@@ -277,5 +277,5 @@ model_is header states kind k c ns gs i rs f g same small h m n o =
     (sym (g ∙ ap (λ (k : Option Kind). unwrap_or k Dtmc) f)) (sym (number ∙ ap pos same)) (sym h) (sym m) (sym n) (sym o)
 
 -- where the last test finds nothing either, the whole text is without fault
-pub no_fault : (fault : Option DrnError) (first : Option DrnError) (number : ℕ) (states : List StateText) → fault ≡ first_of (first ∷ told number (common_fault states) ∷ []) → first ≡ None → common_fault states ≡ None → fault ≡ None
-no_fault fault first number states e f g = e ∙ skip first (told number (common_fault states) ∷ []) f ∙ rw g refl
+pub no_fault : (fault : Option DrnError) (first : Option DrnError) (number : ℕ) (states : List StateText) → fault ≡ first_of (first ∷ reported number (common_fault states) ∷ []) → first ≡ None → common_fault states ≡ None → fault ≡ None
+no_fault fault first number states e f g = e ∙ skip first (reported number (common_fault states) ∷ []) f ∙ rw g refl

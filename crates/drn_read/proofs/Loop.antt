@@ -14,7 +14,7 @@ use Rattle.drn_read.specs.declared.cursor.Cursor.{Cursor}
 use Rattle.drn_read.specs.declared.error.DrnError.{DrnError}
 use Rattle.drn_read.proofs.Cuts.{last-append, Ends, nothing, ending}
 use Rattle.drn_read.proofs.Cuts.{ends as every}
-use Rattle.drn_read.proofs.FirstFault.{Way, Passed, passes, stops, lexer_stops, ends}
+use Rattle.drn_read.proofs.FirstFault.{Semantics, Passed, passes, stops, lexer_stops, ends}
 
 -- ---- the numbers of lines
 
@@ -47,18 +47,18 @@ last_is_length text = last_by text (lines text) (every (lines text)) refl
 -- ---- places
 
 -- what is kept at a place: what the lines before it say, of which none has a fault
-pub record AtPlace {S : Type 0} (way : Way S) (text : List ℕ) (place : Place) (kept : S) : Type 0 where
+pub record AtPlace {S : Type 0} (semantics : Semantics S) (text : List ℕ) (place : Place) (kept : S) : Type 0 where
   pub before : List TextLine
   pub all : before ++ lines_at text place ≡ lines text
-  pub fault : way.first_fault [] (lines text) ≡ way.first_fault before (lines_at text place)
-  pub said_is : kept ≡ way.said before
+  pub fault : semantics.first_fault [] (lines text) ≡ semantics.first_fault before (lines_at text place)
+  pub said_is : kept ≡ semantics.said before
   pub number : place.number ≡ length before + 1
 
-pub at_start : {S : Type 0} (way : Way S) (text : List ℕ) (place : Place) (kept : S) → lines_at text place ≡ lines text → place.number ≡ 1 → kept ≡ way.said [] → AtPlace way text place kept
-at_start way text place kept e n s = record {
+pub at_start : {S : Type 0} (semantics : Semantics S) (text : List ℕ) (place : Place) (kept : S) → lines_at text place ≡ lines text → place.number ≡ 1 → kept ≡ semantics.said [] → AtPlace semantics text place kept
+at_start semantics text place kept e n s = record {
   before = [];
   all = e;
-  fault = ap (way.first_fault []) (sym e);
+  fault = ap (semantics.first_fault []) (sym e);
   said_is = s;
   number = n;
 }
@@ -70,32 +70,32 @@ place_by : (text : List ℕ) (old : Place) (ls rest : List TextLine) (source : T
 place_by text old ls rest source e f = rw e (rw (place_after, f) refl)
 
 -- a line without fault was read
-pub one_more : {S : Type 0} (way : Way S) (text : List ℕ) (old new : Place) (kept after : S) (line : Line) (cursor : Cursor) → AtPlace way text old kept → IsNextLine text old new line → rest cursor ≡ slice_range text line.from line.to → cursor.line ≡ line
+pub one_more : {S : Type 0} (semantics : Semantics S) (text : List ℕ) (old new : Place) (kept after : S) (line : Line) (cursor : Cursor) → AtPlace semantics text old kept → IsNextLine text old new line → rest cursor ≡ slice_range text line.from line.to → cursor.line ≡ line
     → new ≡ place_after text old (behind_comments (lines_at text old))
-    → ((source : TextLine) → IsSource cursor source → way.line_fault kept source ≡ None) → ((source : TextLine) → IsSource cursor source → after ≡ way.with_line kept source)
-    → AtPlace way text new after
-one_more way text old new kept after line cursor h l e f p calm grown =
+    → ((source : TextLine) → IsSource cursor source → semantics.line_fault kept source ≡ None) → ((source : TextLine) → IsSource cursor source → after ≡ semantics.with_line kept source)
+    → AtPlace semantics text new after
+one_more semantics text old new kept after line cursor h l e f p calm grown =
     let s : TextLine = l.source in
     let sp = is_source text old new line cursor l e f in
-    let none : way.line_fault (way.said h.before) s ≡ None = ap (λ k. way.line_fault k s) (sym h.said_is) ∙ calm s sp in
-    let r : Passed way h.before (lines_at text old) (lines_at text new) s = passes way h.before (lines_at text old) (lines_at text new) s l.first l.sound none in
+    let none : semantics.line_fault (semantics.said h.before) s ≡ None = ap (λ k. semantics.line_fault k s) (sym h.said_is) ∙ calm s sp in
+    let r : Passed semantics h.before (lines_at text old) (lines_at text new) s = passes semantics h.before (lines_at text old) (lines_at text new) s l.first l.sound none in
     let whole : lines text ≡ r.earlier ++ s ∷ lines_at text new = sym (sym (append_assoc r.earlier (s ∷ []) (lines_at text new)) ∙ ap (λ ls. ls ++ lines_at text new) (sym r.front_is) ∙ r.all ∙ h.all) in
     let at : new.number ≡ s.number + 1 = ap (λ (k : Place). k.number) (p ∙ place_by text old (behind_comments (lines_at text old)) (lines_at text new) s l.first l.sound) in
     record {
       before = r.front;
       all = r.all ∙ h.all;
       fault = h.fault ∙ r.fault;
-      said_is = grown s sp ∙ ap (λ k. way.with_line k s) h.said_is ∙ sym r.said_is;
+      said_is = grown s sp ∙ ap (λ k. semantics.with_line k s) h.said_is ∙ sym r.said_is;
       number = omega (arith, at, line_number text r.earlier (lines_at text new) s whole, ap length r.front_is, length-append r.earlier (s ∷ []));
     }
 
 -- a line at fault
-pub refused : {S : Type 0} (way : Way S) (text : List ℕ) (old new : Place) (kept : S) (line : Line) (cursor : Cursor) (error : DrnError) → AtPlace way text old kept → IsNextLine text old new line → rest cursor ≡ slice_range text line.from line.to → cursor.line ≡ line
-    → ((source : TextLine) → IsSource cursor source → way.line_fault kept source ≡ Some error) → way.first_fault [] (lines text) ≡ Some error
-refused way text old new kept line cursor error h l e f wrong =
+pub refused : {S : Type 0} (semantics : Semantics S) (text : List ℕ) (old new : Place) (kept : S) (line : Line) (cursor : Cursor) (error : DrnError) → AtPlace semantics text old kept → IsNextLine text old new line → rest cursor ≡ slice_range text line.from line.to → cursor.line ≡ line
+    → ((source : TextLine) → IsSource cursor source → semantics.line_fault kept source ≡ Some error) → semantics.first_fault [] (lines text) ≡ Some error
+refused semantics text old new kept line cursor error h l e f wrong =
     let s : TextLine = l.source in
-    let some : way.line_fault (way.said h.before) s ≡ Some error = ap (λ k. way.line_fault k s) (sym h.said_is) ∙ wrong s (is_source text old new line cursor l e f) in
-    h.fault ∙ stops way h.before (lines_at text old) (lines_at text new) s error l.first l.sound some
+    let some : semantics.line_fault (semantics.said h.before) s ≡ Some error = ap (λ k. semantics.line_fault k s) (sym h.said_is) ∙ wrong s (is_source text old new line cursor l e f) in
+    h.fault ∙ stops semantics h.before (lines_at text old) (lines_at text new) s error l.first l.sound some
 
 -- the first of these lines has a fault of its own
 record Faulty (text : List ℕ) (old : Place) (ls : List TextLine) (fault : LexError) : Type 0 where
@@ -114,12 +114,12 @@ faulty text old (l ∷ ls) fault e = by_own (own_fault l) refl e
     by_own None f g = cc
 
 -- a line with a fault of its own
-pub lexer_refused : {S : Type 0} (way : Way S) (text : List ℕ) (old new : Place) (kept : S) (fault : LexError) → AtPlace way text old kept → Err fault ≡ answer_of (behind_comments (lines_at text old))
-    → new ≡ place_after text old (behind_comments (lines_at text old)) → way.first_fault [] (lines text) ≡ Some (record { line = new.number; cause = lexed fault })
-lexer_refused way text old new kept fault h e p =
+pub lexer_refused : {S : Type 0} (semantics : Semantics S) (text : List ℕ) (old new : Place) (kept : S) (fault : LexError) → AtPlace semantics text old kept → Err fault ≡ answer_of (behind_comments (lines_at text old))
+    → new ≡ place_after text old (behind_comments (lines_at text old)) → semantics.first_fault [] (lines text) ≡ Some (record { line = new.number; cause = lexed fault })
+lexer_refused semantics text old new kept fault h e p =
     let r = faulty text old (behind_comments (lines_at text old)) fault e in
     let n : r.source.number ≡ new.number = sym (ap (λ (k : Place). k.number) p ∙ r.place) in
-    h.fault ∙ lexer_stops way h.before (lines_at text old) r.rest r.source fault r.are r.own ∙ ap (λ n. Some (record { line = n; cause = lexed fault })) n
+    h.fault ∙ lexer_stops semantics h.before (lines_at text old) r.rest r.source fault r.are r.own ∙ ap (λ n. Some (record { line = n; cause = lexed fault })) n
 
 none_left : (ls : List TextLine) → Ok None ≡ answer_of ls → ls ≡ []
 none_left [] e = refl
@@ -133,19 +133,19 @@ end_place : (text : List ℕ) (old : Place) (ls : List TextLine) → ls ≡ [] �
 end_place text old ls e = rw e refl
 
 -- no line is left
-pub record AllRead {S : Type 0} (way : Way S) (text : List ℕ) (number : ℕ) (kept : S) : Type 0 where
-  pub fault : way.first_fault [] (lines text) ≡ None
-  pub said_is : kept ≡ way.said (lines text)
+pub record AllRead {S : Type 0} (semantics : Semantics S) (text : List ℕ) (number : ℕ) (kept : S) : Type 0 where
+  pub fault : semantics.first_fault [] (lines text) ≡ None
+  pub said_is : kept ≡ semantics.said (lines text)
   pub last : last_number (lines text) ≡ number
 
-pub at_end : {S : Type 0} (way : Way S) (text : List ℕ) (old new : Place) (kept : S) → AtPlace way text old kept → Ok None ≡ answer_of (behind_comments (lines_at text old))
-    → new ≡ place_after text old (behind_comments (lines_at text old)) → AllRead way text (new.number - 1) kept
-at_end way text old new kept h e p =
+pub at_end : {S : Type 0} (semantics : Semantics S) (text : List ℕ) (old new : Place) (kept : S) → AtPlace semantics text old kept → Ok None ≡ answer_of (behind_comments (lines_at text old))
+    → new ≡ place_after text old (behind_comments (lines_at text old)) → AllRead semantics text (new.number - 1) kept
+at_end semantics text old new kept h e p =
     let left : behind_comments (lines_at text old) ≡ [] = none_left (behind_comments (lines_at text old)) e in
-    let r = ends way h.before (lines_at text old) left in
+    let r = ends semantics h.before (lines_at text old) left in
     let n : new.number ≡ old.number + length (lines_at text old) = ap (λ (k : Place). k.number) p ∙ end_place text old (behind_comments (lines_at text old)) left in
     record {
       fault = h.fault ∙ r.0;
-      said_is = h.said_is ∙ sym r.1 ∙ ap way.said h.all;
+      said_is = h.said_is ∙ sym r.1 ∙ ap semantics.said h.all;
       last = omega (arith, n, h.number, last_is_length text, ap length h.all, length-append h.before (lines_at text old));
     }

@@ -6,7 +6,7 @@ use Rattle.drn_lexer.specs.Cutting.{Piece}
 use Rattle.drn_lexer.specs.Lines.{TextLine}
 use Rattle.drn_lexer.specs.Words.{WordKind, words}
 use Rattle.drn_expr.specs.RatPolys.{OverOne}
-use Rattle.drn_read.specs.Faults.{when, first_of, fault_of, told}
+use Rattle.drn_read.specs.Faults.{when, first_of, fault_of, reported}
 use Rattle.drn_read.specs.Parts.{is_empty}
 use Rattle.drn_read.specs.Sections.{Header, Placeholder}
 use Rattle.drn_read.specs.States.{StateText, begins_with, is_transition, target_of, named_value, entry_value}
@@ -78,7 +78,7 @@ state_or_action : (h : Header) (states : List StateText) (source : TextLine) (A 
 state_or_action h states source A B C [] e = cc
 state_or_action h states source A B C (w ∷ ws) e = by_form w.form e
   where
-    by_words : (s t : Bool) (F : Option DrnError) (G : Option DrnError) → (if s then F else (if t then G else told source.number (Some Syntax))) ≡ None → (if s then A else B) ≡ (if s then A else (if t then B else C))
+    by_words : (s t : Bool) (F : Option DrnError) (G : Option DrnError) → (if s then F else (if t then G else reported source.number (Some Syntax))) ≡ None → (if s then A else B) ≡ (if s then A else (if t then B else C))
     by_words true t F G e = refl
     by_words false true F G e = refl
     by_words false false F G e = cc
@@ -104,5 +104,5 @@ on_ok (Err cause) number P Q p step = tt
 -- where a line was read its fault is none
 pub on_read : (r : Result (Unit {0}) DrnError) (P : Type 0) (S Q : TextLine → Type 0) (fault : TextLine → Option DrnError) → OnOk r P → ((source : TextLine) → S source → TellsLine r (fault source))
     → ((source : TextLine) → S source → P → fault source ≡ None → Q source) → OnOk r ((source : TextLine) → S source → Q source)
-on_read (Ok x) P S Q fault p told step = λ source s. step source s p (told source s)
-on_read (Err error) P S Q fault p told step = tt
+on_read (Ok x) P S Q fault p reported step = λ source s. step source s p (reported source s)
+on_read (Err error) P S Q fault p reported step = tt

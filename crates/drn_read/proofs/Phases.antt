@@ -17,7 +17,7 @@ use Rattle.drn_read.specs.declared.section.Phase.{Phase}
 use Rattle.drn_read.specs.declared.section.Phase.TheVariants as phase
 use Rattle.drn_read.specs.declared.section.Section.{Section}
 use Rattle.drn_read.specs.declared.section.Section.TheVariants.{ModelType, Model}
-use Rattle.drn_read.proofs.Declared.{told_none}
+use Rattle.drn_read.proofs.Declared.{reported_none}
 
 pub step_sections : (label : List ℕ) (said : Said) (l : TextLine) → said.header.phase ≡ phase.Sections → is_head l ≡ false → with_line label said l ≡ said
 step_sections label said l e f = rw (e, f) refl
@@ -79,12 +79,12 @@ record IsCalmHead (label : List ℕ) (said : Said) (l : TextLine) : Type 0 where
   pub step : with_line label said l ≡ record said { header = with_head said.header (content l) }
 
 calm_head_in : (label : List ℕ) (said : Said) (l : TextLine) (p : Phase) → said.header.phase ≡ p → is_head l ≡ true → line_fault said l ≡ None → IsCalmHead label said l
-calm_head_in label said l phase.Sections e f h = record { fault = told_none l.number _ (rw (e, f) at h); step = rw (e, f) refl }
-calm_head_in label said l phase.NameList e f h = record { fault = told_none l.number _ (rw (e, f) at h); step = rw (e, f) refl }
-calm_head_in label said l phase.RewardList e f h = record { fault = told_none l.number _ (rw (e, f) at h); step = rw (e, f) refl }
+calm_head_in label said l phase.Sections e f h = record { fault = reported_none l.number _ (rw (e, f) at h); step = rw (e, f) refl }
+calm_head_in label said l phase.NameList e f h = record { fault = reported_none l.number _ (rw (e, f) at h); step = rw (e, f) refl }
+calm_head_in label said l phase.RewardList e f h = record { fault = reported_none l.number _ (rw (e, f) at h); step = rw (e, f) refl }
 calm_head_in label said l phase.StateCount e f h = let n = first_not_blank _ (content l) f in let d = first_no_digits (content l) f in let k = rw (e, n, d) at h in cc
 calm_head_in label said l phase.ChoiceCount e f h = let n = first_not_blank _ (content l) f in let d = first_no_digits (content l) f in let k = rw (e, n, d) at h in cc
-calm_head_in label said l phase.Placeholders e f h = record { fault = told_none l.number _ (rw (e, f) at h); step = rw (e, f) refl }
+calm_head_in label said l phase.Placeholders e f h = record { fault = reported_none l.number _ (rw (e, f) at h); step = rw (e, f) refl }
 calm_head_in label said l phase.Model e f h = let k = rw (e, f) at h in cc
 
 -- such a line begins a section

@@ -8,7 +8,7 @@ use Rattle.drn_read.specs.Reading.{said, judge, first_fault, last_number, end_fa
 use Rattle.drn_read.specs.Laws.{TextsAreValid}
 use Rattle.drn_read.specs.Keeping.{with_line}
 use Rattle.drn_read.specs.declared.error.DrnError.{DrnError}
-use Rattle.drn_read.proofs.FirstFault.{Way, or_else, judged}
+use Rattle.drn_read.proofs.FirstFault.{Semantics, or_else, judged}
 use Rattle.drn_read.proofs.Growth.{grows, skips}
 use Rattle.drn_read.proofs.Loop.{AllRead}
 
@@ -29,7 +29,7 @@ judges label before l None true e f = rw (judge, e, f) refl
 judges label before l None false e f = rw (judge, e, f) refl
 
 -- a model, for the label of the goal states
-abbrev pub plain : List ℕ → Way Said
+abbrev pub plain : List ℕ → Semantics Said
 plain label = record {
   said = said label;
   line_fault = line_fault;

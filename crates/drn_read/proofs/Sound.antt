@@ -14,7 +14,7 @@ use Rattle.drn_read.specs.Keeping.{header_with, with_line}
 use Rattle.drn_read.specs.Reading.{said, judge, first_fault, end_fault, model, ended, last_number, drn}
 use Rattle.drn_read.specs.declared.section.Phase.{Phase}
 use Rattle.drn_read.specs.declared.section.Phase.TheVariants as phase
-use Rattle.drn_read.proofs.Declared.{Stays, header_stays, told_none}
+use Rattle.drn_read.proofs.Declared.{Stays, header_stays, reported_none}
 use Rattle.drn_read.proofs.Stated.{model_stays}
 use Rattle.drn_read.proofs.Kept.{Laws, IsValue, IsState, AreStates, IsSound}
 use Rattle.drn_read.proofs.Whole.{read_model_is}
@@ -58,12 +58,12 @@ goes_on_in laws label kept phase.Model line h e = record {
   states = model_stays laws label (in_phase phase.Model kept).header kept.states line e h.declared.values h.states;
   before = λ ne. absurd (ne refl);
 }
-goes_on_in laws label kept phase.Sections line h e = declared_on laws label kept phase.Sections line (λ same. cc) h (told_none line.number (header_fault (in_phase phase.Sections kept).header line) e)
-goes_on_in laws label kept phase.NameList line h e = declared_on laws label kept phase.NameList line (λ same. cc) h (told_none line.number (header_fault (in_phase phase.NameList kept).header line) e)
-goes_on_in laws label kept phase.RewardList line h e = declared_on laws label kept phase.RewardList line (λ same. cc) h (told_none line.number (header_fault (in_phase phase.RewardList kept).header line) e)
-goes_on_in laws label kept phase.StateCount line h e = declared_on laws label kept phase.StateCount line (λ same. cc) h (told_none line.number (header_fault (in_phase phase.StateCount kept).header line) e)
-goes_on_in laws label kept phase.ChoiceCount line h e = declared_on laws label kept phase.ChoiceCount line (λ same. cc) h (told_none line.number (header_fault (in_phase phase.ChoiceCount kept).header line) e)
-goes_on_in laws label kept phase.Placeholders line h e = declared_on laws label kept phase.Placeholders line (λ same. cc) h (told_none line.number (header_fault (in_phase phase.Placeholders kept).header line) e)
+goes_on_in laws label kept phase.Sections line h e = declared_on laws label kept phase.Sections line (λ same. cc) h (reported_none line.number (header_fault (in_phase phase.Sections kept).header line) e)
+goes_on_in laws label kept phase.NameList line h e = declared_on laws label kept phase.NameList line (λ same. cc) h (reported_none line.number (header_fault (in_phase phase.NameList kept).header line) e)
+goes_on_in laws label kept phase.RewardList line h e = declared_on laws label kept phase.RewardList line (λ same. cc) h (reported_none line.number (header_fault (in_phase phase.RewardList kept).header line) e)
+goes_on_in laws label kept phase.StateCount line h e = declared_on laws label kept phase.StateCount line (λ same. cc) h (reported_none line.number (header_fault (in_phase phase.StateCount kept).header line) e)
+goes_on_in laws label kept phase.ChoiceCount line h e = declared_on laws label kept phase.ChoiceCount line (λ same. cc) h (reported_none line.number (header_fault (in_phase phase.ChoiceCount kept).header line) e)
+goes_on_in laws label kept phase.Placeholders line h e = declared_on laws label kept phase.Placeholders line (λ same. cc) h (reported_none line.number (header_fault (in_phase phase.Placeholders kept).header line) e)
 
 pub goes_on : (laws : Laws) (label : List ℕ) (kept : Said) (line : TextLine) → IsSound kept → line_fault kept line ≡ None → IsSound (with_line label kept line)
 goes_on laws label kept line h e = goes_on_in laws label kept kept.header.phase line h e

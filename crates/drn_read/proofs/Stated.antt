@@ -21,7 +21,7 @@ use Rattle.drn_lexer.specs.Lines.{TextLine, content, is_blank_line}
 use Rattle.drn_lexer.specs.Symbols.{symbols}
 use Rattle.drn_lexer.specs.Words.{WordKind, words, word_front}
 use Rattle.drn_expr.specs.RatPolys.{OverOne}
-use Rattle.drn_read.specs.Faults.{when, first_of, fault_of, told}
+use Rattle.drn_read.specs.Faults.{when, first_of, fault_of, reported}
 use Rattle.drn_read.specs.Parts.{last, is_empty}
 use Rattle.drn_read.specs.Text.{behind_colon, is_digits, value_of}
 use Rattle.drn_read.specs.Sections.{Header, Placeholder, is_head}
@@ -32,7 +32,7 @@ use Rattle.drn_read.specs.declared.error.DrnCause.{DrnCause}
 use Rattle.drn_read.specs.declared.error.DrnCause.TheVariants.{Syntax, UnknownPlace, UnknownSection, StateOrder, ExtraChoice, NoChoice, RepeatedTarget, LimitStates, LimitChoices, LimitTransitions}
 use Rattle.drn_read.specs.declared.error.DrnError.{DrnError}
 use Rattle.drn_read.specs.declared.state.Transition.{Transition}
-use Rattle.drn_read.proofs.Declared.{first_none, when_none, fault_none, value_over, told_none}
+use Rattle.drn_read.proofs.Declared.{first_none, when_none, fault_none, value_over, reported_none}
 use Rattle.drn_read.proofs.Kept.{Laws, IsValue, IsChoice, IsState, AreStates}
 use Rattle.drn_read.proofs.Lists.{split, last-push, on_last-push, All-front, All-end, any_false, find_keeps}
 use Rattle.lift_model.specs.Valid.{most_transitions, most_choices, most_states}
@@ -290,12 +290,12 @@ words_stay P h states line A B C [] e a b = cc
 words_stay P h states line A B C (w ∷ ws) e a b = by_form w.form e
   where
     by_words : (s t : Bool)
-        → cond s (first_of (choiceless states ∷ told line.number (state_fault (length states) ws) ∷ [])) (cond t (told line.number (action_fault h states ws)) (told line.number (Some Syntax))) ≡ None → P (cond s A (cond t B C))
+        → cond s (first_of (choiceless states ∷ reported line.number (state_fault (length states) ws) ∷ [])) (cond t (reported line.number (action_fault h states ws)) (reported line.number (Some Syntax))) ≡ None → P (cond s A (cond t B C))
     by_words true t e =
-        let x = first_none (choiceless states) (told line.number (state_fault (length states) ws) ∷ []) e in
-        let y = first_none (told line.number (state_fault (length states) ws)) [] x.1 in
-        a x.0 (state_small (length states) ws (told_none line.number (state_fault (length states) ws) y.0))
-    by_words false true e = b ws (told_none line.number (action_fault h states ws) e)
+        let x = first_none (choiceless states) (reported line.number (state_fault (length states) ws) ∷ []) e in
+        let y = first_none (reported line.number (state_fault (length states) ws)) [] x.1 in
+        a x.0 (state_small (length states) ws (reported_none line.number (state_fault (length states) ws) y.0))
+    by_words false true e = b ws (reported_none line.number (action_fault h states ws) e)
     by_words false false e = cc
 
     by_form : (form : WordKind) → words_fault h states line (record w { form = form } ∷ ws) ≡ None → P (cond (bytes_eq w.bytes (codes "state")) A (cond (bytes_eq w.bytes (codes "action")) B C))
@@ -329,22 +329,22 @@ model_stays laws label h states line e values sound = by_head (is_head line) e
     moved = on_last (with_transitions (transition l)) states
 
     by_transition : (t : Bool) → is_transition (content line) ≡ t
-        → cond t (told line.number (transition_fault h states (content line))) (words_fault h states line (words (content line))) ≡ None
+        → cond t (reported line.number (transition_fault h states (content line))) (words_fault h states line (words (content line))) ≡ None
         → P (cond (is_state l) fresh (cond (is_action l) chosen moved))
     by_transition true is e =
         neither P (is_state l) (is_action l) fresh chosen moved (words_digit 115 (codes "tate") (content line) (omega arith) is) (words_digit 97 (codes "ction") (content line) (omega arith) is)
-        (transition_stays laws h states line (told_none line.number (transition_fault h states (content line)) e) values sound)
+        (transition_stays laws h states line (reported_none line.number (transition_fault h states (content line)) e) values sound)
     by_transition false is e =
         words_stay P h states line fresh chosen moved (words (content line)) e
         (λ x few. state_added h.kind (length h.names) states (state label (record { head = l; body = [] })) refl x few sound)
         (λ others x. action_stays h states others x sound)
 
-    by_blank : (b : Bool) → cond b None (cond (is_transition (content line)) (told line.number (transition_fault h states (content line))) (words_fault h states line (words (content line)))) ≡ None
+    by_blank : (b : Bool) → cond b None (cond (is_transition (content line)) (reported line.number (transition_fault h states (content line))) (words_fault h states line (words (content line)))) ≡ None
         → P (cond b states (cond (is_state l) fresh (cond (is_action l) chosen moved)))
     by_blank true e = sound
     by_blank false e = by_transition (is_transition (content line)) refl e
 
-    by_head : (b : Bool) → cond b (told line.number (Some UnknownSection)) (cond (is_blank_line line) None (cond (is_transition (content line)) (told line.number (transition_fault h states (content line))) (words_fault h states line (words (content line))))) ≡ None
+    by_head : (b : Bool) → cond b (reported line.number (Some UnknownSection)) (cond (is_blank_line line) None (cond (is_transition (content line)) (reported line.number (transition_fault h states (content line))) (words_fault h states line (words (content line))))) ≡ None
         → P (cond (is_blank_line line) states (cond (is_state l) fresh (cond (is_action l) chosen moved)))
     by_head true e = cc
     by_head false e = by_blank (is_blank_line line) e

@@ -14,7 +14,7 @@ use Rattle.lift_model.specs.declared.kind.Kind.{Kind}
 use Rattle.lift_model.specs.declared.kind.Kind.TheVariants.{Dtmc, Mdp}
 use Rattle.lift_model.specs.declared.entry.Entry.{Entry}
 use Rattle.lift_model.specs.Valid.{common_limit, coefficient_limit, IsEntry, IsRow, IsModel}
-use Rattle.drn_read.specs.Faults.{when, told}
+use Rattle.drn_read.specs.Faults.{when, reported}
 use Rattle.drn_read.specs.States.{StateText}
 use Rattle.drn_read.specs.Judging.{Said, has, choice_count, choiceless}
 use Rattle.lift_frac.specs.Gcd.{lcm}
@@ -44,9 +44,9 @@ record IsWhole (states : List StateText) : Type 0 where
   denominator : common states < common_limit
   sizes : All (λ t. is_large (common states) t ≡ false) (all_transitions states)
 
-none_told : (number : ℕ) (b : Bool) (cause : DrnCause) → told number (when b cause) ≡ None → b ≡ false
-none_told number true cause e = cc
-none_told number false cause e = refl
+none_reported : (number : ℕ) (b : Bool) (cause : DrnCause) → reported number (when b cause) ≡ None → b ≡ false
+none_reported number true cause e = cc
+none_reported number false cause e = refl
 
 not_found : (o : Option Transition) (f : Transition → DrnError) → option_map f o ≡ None → o ≡ None
 not_found None f e = refl
@@ -61,13 +61,13 @@ at_end number said e =
     let large : Bool = list_any (is_large c) (all_transitions states) in
     let found : Option Transition = find (λ t. nat_le count t.target) (all_transitions states) in
     let range : Transition → DrnError = λ t. record { line = t.line; cause = TargetRange } in
-    let none = told number (when (count == 0) NoState) in
-    let counted = told number (when (is_some (mismatch said.header count (choice_count states))) CountMismatch) in
+    let none = reported number (when (count == 0) NoState) in
+    let counted = reported number (when (is_some (mismatch said.header count (choice_count states))) CountMismatch) in
     let target = option_map range found in
-    let init = told number (when (not (count_by (λ s. s.init) states == 1)) InitCount) in
-    let goal = told number (when (not (list_any (λ s. s.goal) states)) UnknownLabel) in
-    let wide = told number (when (nat_le common_limit c || large) CommonDenominator) in
-    let a = first_none (told number (when (not (has Model said.header)) MissingSection)) (choiceless states ∷ none ∷ counted ∷ target ∷ init ∷ goal ∷ wide ∷ []) e in
+    let init = reported number (when (not (count_by (λ s. s.init) states == 1)) InitCount) in
+    let goal = reported number (when (not (list_any (λ s. s.goal) states)) UnknownLabel) in
+    let wide = reported number (when (nat_le common_limit c || large) CommonDenominator) in
+    let a = first_none (reported number (when (not (has Model said.header)) MissingSection)) (choiceless states ∷ none ∷ counted ∷ target ∷ init ∷ goal ∷ wide ∷ []) e in
     let b = first_none (choiceless states) (none ∷ counted ∷ target ∷ init ∷ goal ∷ wide ∷ []) a.1 in
     let d = first_none none (counted ∷ target ∷ init ∷ goal ∷ wide ∷ []) b.1 in
     let g = first_none counted (target ∷ init ∷ goal ∷ wide ∷ []) d.1 in
@@ -75,16 +75,16 @@ at_end number said e =
     let i = first_none init (goal ∷ wide ∷ []) h.1 in
     let j = first_none goal (wide ∷ []) i.1 in
     let k = first_none wide [] j.1 in
-    let small = or_parts (nat_le common_limit c) large (none_told number (nat_le common_limit c || large) CommonDenominator k.0) in
-    let some : count ≡ 0 → ⊥ = eqb-false count 0 (none_told number (count == 0) NoState d.0) in
+    let small = or_parts (nat_le common_limit c) large (none_reported number (nat_le common_limit c || large) CommonDenominator k.0) in
+    let some : count ≡ 0 → ⊥ = eqb-false count 0 (none_reported number (count == 0) NoState d.0) in
     record {
       last = b.0;
       some = omega (arith, some);
       targets =
           All-weaker (λ (t : Transition). nat_le count t.target ≡ false) (λ t. t.target < count) (λ t no. leb-false count t.target no) (all_transitions states)
           (find_none (λ (t : Transition). nat_le count t.target) (all_transitions states) (not_found found range h.0));
-      init = eqb-true (count_by (λ s. s.init) states) 1 (not-false (count_by (λ s. s.init) states == 1) (none_told number (not (count_by (λ s. s.init) states == 1)) InitCount i.0));
-      goal = not-false (list_any (λ s. s.goal) states) (none_told number (not (list_any (λ s. s.goal) states)) UnknownLabel j.0);
+      init = eqb-true (count_by (λ s. s.init) states) 1 (not-false (count_by (λ s. s.init) states == 1) (none_reported number (not (count_by (λ s. s.init) states == 1)) InitCount i.0));
+      goal = not-false (list_any (λ s. s.goal) states) (none_reported number (not (list_any (λ s. s.goal) states)) UnknownLabel j.0);
       denominator = leb-false common_limit c small.0;
       sizes = any_false (is_large c) (all_transitions states) small.1;
     }

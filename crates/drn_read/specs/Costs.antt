@@ -6,7 +6,7 @@ use Rattle.lift_costs.specs.Costs.{CostData, cost, no_cost}
 use Rattle.lift_model.specs.Model.{ModelData}
 use Rattle.drn_lexer.specs.Lines.{TextLine, lines, content, own_fault, is_comment}
 use Rattle.drn_lexer.specs.Words.{words}
-use Rattle.drn_read.specs.Faults.{when, first_of, lexed, told}
+use Rattle.drn_read.specs.Faults.{when, first_of, lexed, reported}
 use Rattle.drn_read.specs.Parts.{Part}
 use Rattle.drn_read.specs.Sections.{sections, is_section, is_head, said_in, gather}
 use Rattle.drn_read.specs.States.{begins_with}
@@ -95,12 +95,12 @@ line_rewards_fault s line = elim s.said.header.phase [
 
 -- the first fault of a line that is no comment: of its rewards where they are reached, and else as without rewards
 abbrev pub cost_line_fault : CostSaid → TextLine → Option DrnError
-cost_line_fault s line = first_of (told line.number (line_rewards_fault s line) ∷ line_fault s.said line ∷ [])
+cost_line_fault s line = first_of (reported line.number (line_rewards_fault s line) ∷ line_fault s.said line ∷ [])
 
 -- the first fault of a line behind these others
 unfoldable pub judge_costs : Asked → List TextLine → TextLine → Option DrnError
 judge_costs asked before line = elim (own_fault line) [
-  | Some fault ↦ told line.number (Some (lexed fault))
+  | Some fault ↦ reported line.number (Some (lexed fault))
   | None ↦ if is_comment line then None else cost_line_fault (cost_said asked before) line
 ]
 
@@ -124,7 +124,7 @@ before_common (Some error) = if is_common error.cause then None else Some error
 abbrev pub cost_end_fault : ℕ → CostSaid → Option DrnError
 cost_end_fault number s = first_of (
     before_common (end_fault number s.said)
-    ∷ told number (when (is_none (place_of s.rewards)) UnknownReward)
+    ∷ reported number (when (is_none (place_of s.rewards)) UnknownReward)
     ∷ end_fault number s.said ∷ [])
 
 -- the model and the costs at the end of a text whose lines have no fault, or what is wrong there

@@ -50,8 +50,8 @@ abbrev pub fault_of : {A : Type 0} → Result A DrnCause → Option DrnCause
 fault_of outcome = elim outcome [ Ok x ↦ None | Err cause ↦ Some cause ]
 
 -- a fault that is told of the line of this number
-abbrev pub told : ℕ → Option DrnCause → Option DrnError
-told number fault = option_map (λ cause. record { line = number; cause = cause }) fault
+abbrev pub reported : ℕ → Option DrnCause → Option DrnError
+reported number fault = option_map (λ cause. record { line = number; cause = cause }) fault
 
 -- the name of a cause, as it is told
 abbrev pub cause_name : DrnCause → List ℕ

@@ -14,7 +14,7 @@ use Rattle.drn_lexer.specs.Cutting.{Piece}
 use Rattle.drn_lexer.specs.Lines.{TextLine, content, is_blank_line}
 use Rattle.drn_lexer.specs.Words.{WordKind, words}
 use Rattle.drn_lexer.specs.declared.word.WordForm.TheVariants as word
-use Rattle.drn_read.specs.Faults.{when, first_of, word_fault, fault_of, lexed, told}
+use Rattle.drn_read.specs.Faults.{when, first_of, word_fault, fault_of, lexed, reported}
 use Rattle.drn_read.specs.Parts.{last, is_empty}
 use Rattle.lift_bytes.specs.Bytes.{is_name}
 use Rattle.drn_read.specs.Text.{most_digits, is_digits}
@@ -212,21 +212,21 @@ action_fault h states ws = first_of (choice_fault h.kind states ∷ name_and_gro
 
 -- a line of the model by its words, where it is no transition
 abbrev pub words_fault : Header → List StateText → TextLine → List (Piece WordKind) → Option DrnError
-words_fault h states line [] = told line.number (Some Syntax)
+words_fault h states line [] = reported line.number (Some Syntax)
 words_fault h states line (w ∷ ws) = elim w.form [
-  | Err fault ↦ told line.number (Some (lexed fault))
+  | Err fault ↦ reported line.number (Some (lexed fault))
   | Ok _ ↦
-      if bytes_eq w.bytes (codes "state") then first_of (choiceless states ∷ told line.number (state_fault (length states) ws) ∷ [])
-      else (if bytes_eq w.bytes (codes "action") then told line.number (action_fault h states ws) else told line.number (Some Syntax))
+      if bytes_eq w.bytes (codes "state") then first_of (choiceless states ∷ reported line.number (state_fault (length states) ws) ∷ [])
+      else (if bytes_eq w.bytes (codes "action") then reported line.number (action_fault h states ws) else reported line.number (Some Syntax))
 ]
 
 -- the first fault of a line of the model
 abbrev pub model_fault : Header → List StateText → TextLine → Option DrnError
-model_fault h states line = if is_head line then told line.number (Some UnknownSection)
+model_fault h states line = if is_head line then reported line.number (Some UnknownSection)
     else (if is_blank_line line then None
-    else (if is_transition (content line) then told line.number (transition_fault h states (content line))
+    else (if is_transition (content line) then reported line.number (transition_fault h states (content line))
     else words_fault h states line (words (content line))))
 
 -- the first fault of a line that is no comment, by what the lines before it say
 abbrev pub line_fault : Said → TextLine → Option DrnError
-line_fault said line = elim said.header.phase [ phase.Model ↦ model_fault said.header said.states line | _ ↦ told line.number (header_fault said.header line) ]
+line_fault said line = elim said.header.phase [ phase.Model ↦ model_fault said.header said.states line | _ ↦ reported line.number (header_fault said.header line) ]

@@ -11,7 +11,7 @@ use Rattle.lift_model.specs.Valid.{common_limit, coefficient_limit}
 use Rattle.lift_model.specs.declared.entry.Entry.{Entry}
 use Rattle.drn_lexer.specs.Lines.{TextLine, lines, own_fault, is_comment}
 use Rattle.drn_expr.specs.RatPolys.{OverOne}
-use Rattle.drn_read.specs.Faults.{when, first_of, lexed, told}
+use Rattle.drn_read.specs.Faults.{when, first_of, lexed, reported}
 use Rattle.drn_read.specs.Parts.{last}
 use Rattle.drn_read.specs.Sections.{Header, sections, header}
 use Rattle.drn_read.specs.States.{StateText, states}
@@ -30,7 +30,7 @@ said label lines = record { header = header (sections lines); states = states la
 -- The first fault of a line behind these others: of the line by itself, or by what they say. Nothing more is asked of a comment line.
 unfoldable pub judge : List ℕ → List TextLine → TextLine → Option DrnError
 judge label before line = elim (own_fault line) [
-  | Some fault ↦ told line.number (Some (lexed fault))
+  | Some fault ↦ reported line.number (Some (lexed fault))
   | None ↦ if is_comment line then None else line_fault (said label before) line
 ]
 
@@ -72,14 +72,14 @@ common_fault states = when (nat_le common_limit (common states) || list_any (is_
 -- The tests at the end of the text, whose last line has this number. A state without choice and a target that is no state are told by their own lines.
 unfoldable pub end_fault : ℕ → Said → Option DrnError
 end_fault number said = let count = length said.states in first_of (
-    told number (when (not (has Model said.header)) MissingSection)
+    reported number (when (not (has Model said.header)) MissingSection)
     ∷ choiceless said.states
-    ∷ told number (when (count == 0) NoState)
-    ∷ told number (when (is_some (mismatch said.header count (choice_count said.states))) CountMismatch)
+    ∷ reported number (when (count == 0) NoState)
+    ∷ reported number (when (is_some (mismatch said.header count (choice_count said.states))) CountMismatch)
     ∷ option_map (λ t. record { line = t.line; cause = TargetRange }) (find (λ t. nat_le count t.target) (all_transitions said.states))
-    ∷ told number (when (not (count_by (λ s. s.init) said.states == 1)) InitCount)
-    ∷ told number (when (not (list_any (λ s. s.goal) said.states)) UnknownLabel)
-    ∷ told number (common_fault said.states) ∷ [])
+    ∷ reported number (when (not (count_by (λ s. s.init) said.states == 1)) InitCount)
+    ∷ reported number (when (not (list_any (λ s. s.goal) said.states)) UnknownLabel)
+    ∷ reported number (common_fault said.states) ∷ [])
 
 -- a transition as an entry of a row, over the common denominator
 abbrev pub entry : ℕ → Transition → Entry

@@ -3,7 +3,7 @@ ghost use Rattle.std.specs.Prelude.{◌≡◌, ◌==◌, ℕ, List, [], None, le
 ghost use Rattle.std.specs.List.{list_any};
 ghost use Rattle.lift_bytes.specs.Bytes.{code};
 ghost use Rattle.drn_lexer.specs.Lines.{TextLine};
-ghost use Rattle.drn_read.specs.Faults.{told};
+ghost use Rattle.drn_read.specs.Faults.{reported};
 ghost use Rattle.drn_read.specs.RewardLines.{words_rewards_fault};
 ghost use Rattle.drn_read.specs.Costs.{cost_said, cost_line_fault};
 ghost use Rattle.drn_read.specs.CostKeeping.{with_reward_words, with_cost_line};
@@ -72,7 +72,7 @@ impl<'t> CostReader<'t> {
         ensures { let r = self.now in
             let count = length r.rewards.names in
             (source : TextLine) → line.entry.line.number ≡ source.number → TellsLine result
-            (told source.number (words_rewards_fault count r.said.header r.said.states (left line.entry))) }
+            (reported source.number (words_rewards_fault count r.said.header r.said.states (left line.entry))) }
     {
         if !has_bracket(line.rest()) {
             return Ok(());

@@ -3,7 +3,7 @@ ghost use Rattle.std.specs.Prelude.{◌≡◌, ◌<◌, [], length, is_none, Non
 ghost use Rattle.drn_lexer.specs.Lines.{text_limit};
 ghost use Rattle.lift_model.specs.Valid.{IsModel};
 ghost use Rattle.drn_read.specs.Reading.{end_fault, model};
-ghost use Rattle.drn_read.specs.Faults.{when, told};
+ghost use Rattle.drn_read.specs.Faults.{when, reported};
 ghost use Rattle.drn_read.specs.Costs.{place_of, is_common, cost_said, cost_end_fault, drn_costs};
 ghost use Rattle.drn_read.specs.Costs.{IsCostAnswer};
 ghost use Rattle.drn_read.specs.Shown.{TellsLine, refusal};
@@ -49,7 +49,7 @@ fn is_common(cause: DrnCause) -> bool
 /// The reward that is asked for was declared.
 fn test_known(number: u32, rewards: &RewardReader<'_>) -> Result<(), DrnError>
     ensures { refusal result
-        ≡ told number (when (is_none (place_of rewards.now)) DrnCause.UnknownReward) }
+        ≡ reported number (when (is_none (place_of rewards.now)) DrnCause.UnknownReward) }
 {
     if rewards.is_known() {
         return Ok(());

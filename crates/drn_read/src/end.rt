@@ -5,7 +5,7 @@ ghost use Rattle.std.specs.Prelude.{◌^◌};
 ghost use Rattle.std.specs.List.{list_any, position_or_len};
 ghost use Rattle.std.specs.Option.{option_map, unwrap_or};
 ghost use Rattle.lift_model.specs.Valid.{most_states, common_limit, IsModel};
-ghost use Rattle.drn_read.specs.Faults.{when, first_of, told};
+ghost use Rattle.drn_read.specs.Faults.{when, first_of, reported};
 ghost use Rattle.drn_read.specs.Judging.{has, choice_count};
 ghost use Rattle.drn_read.specs.Reading.{differs, mismatch, all_transitions, common};
 ghost use Rattle.drn_read.specs.Reading.{entry, common_fault, end_fault, model};
@@ -24,7 +24,7 @@ use std::alloc::{AllocError, Global};
 
 /// A test of the whole text, whose fault is told of its last line.
 fn test(number: u32, fails: bool, cause: DrnCause) -> Result<(), DrnError>
-    ensures { refusal result ≡ told number (when fails cause) }
+    ensures { refusal result ≡ reported number (when fails cause) }
 {
     if fails {
         return Err(DrnError {
@@ -38,7 +38,7 @@ fn test(number: u32, fails: bool, cause: DrnCause) -> Result<(), DrnError>
 /// A section `@model` stands there.
 fn test_model_section(number: u32, header: &HeaderReader) -> Result<(), DrnError>
     ensures { refusal result
-        ≡ told number (when (not (has Section.Model header.now)) DrnCause.MissingSection) }
+        ≡ reported number (when (not (has Section.Model header.now)) DrnCause.MissingSection) }
 {
     test(
         number,
@@ -49,7 +49,7 @@ fn test_model_section(number: u32, header: &HeaderReader) -> Result<(), DrnError
 
 /// There is a state.
 fn test_some_state(number: u32, states: &[State]) -> Result<(), DrnError>
-    ensures { refusal result ≡ told number (when (length states.now == 0) DrnCause.NoState) }
+    ensures { refusal result ≡ reported number (when (length states.now == 0) DrnCause.NoState) }
 {
     test(number, states.is_empty(), DrnCause::NoState)
 }
@@ -86,7 +86,7 @@ fn test_counts(
     choices: usize,
 ) -> Result<(), DrnError>
     ensures { let wrong = is_some (mismatch header.now (length states.now) choices) in
-        refusal result ≡ told number (when wrong DrnCause.CountMismatch) }
+        refusal result ≡ reported number (when wrong DrnCause.CountMismatch) }
 {
     let wrong = mismatch(header, states.len(), choices);
     test(number, wrong.is_some(), DrnCause::CountMismatch)
@@ -155,7 +155,7 @@ fn init_count(states: &[State]) -> usize
 /// Exactly one state carries `init`.
 fn test_init(number: u32, states: &[State]) -> Result<(), DrnError>
     ensures { refusal result
-        ≡ told number (when (not (count_by (λ s. s.init) states.now == 1)) DrnCause.InitCount) }
+        ≡ reported number (when (not (count_by (λ s. s.init) states.now == 1)) DrnCause.InitCount) }
 {
     test(number, init_count(states) != 1, DrnCause::InitCount)
 }
@@ -170,7 +170,7 @@ fn has_goal(states: &[State]) -> bool
 /// A state carries the goal's label.
 fn test_goal(number: u32, states: &[State]) -> Result<(), DrnError>
     ensures { refusal result
-        ≡ told number (when (not (list_any (λ s. s.goal) states.now)) DrnCause.UnknownLabel) }
+        ≡ reported number (when (not (list_any (λ s. s.goal) states.now)) DrnCause.UnknownLabel) }
 {
     test(number, !has_goal(states), DrnCause::UnknownLabel)
 }
@@ -185,7 +185,7 @@ fn test_whole(
 ) -> Result<(), DrnError>
     requires { choices ≡ choice_count states.now }
     ensures fault { end_fault number (record { header = header.now; states = states.now })
-        ≡ first_of (refusal result ∷ told number (common_fault states.now) ∷ []) }
+        ≡ first_of (refusal result ∷ reported number (common_fault states.now) ∷ []) }
     ensures targets { OnOk result
         (All (λ s. All (TargetsBelow (length states.now)) s.choices) states.now) }
 {

@@ -1,5 +1,5 @@
-//! The reading of a model text: its definition, and the call that gives the model or the refusal
-//! that the definition says; and the same with what each state costs.
+//! The reading (parsing) of a model text in the explicit DRN format: its definition, and the call that gives the model
+//! or the refusal that the definition says; and the same with what each state costs (its state reward).
 #![tactic(auto)]
 
 ghost use Rattle.std.specs.Prelude.{◌≡◌, ◌+◌, ◌<◌, ◌≤◌, [], length};

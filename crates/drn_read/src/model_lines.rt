@@ -4,7 +4,7 @@ ghost use Rattle.std.specs.Prelude.{length, OnOk, OnErr};
 ghost use Rattle.std.specs.Option.{option_copied, option_map};
 ghost use Rattle.drn_lexer.specs.Lines.{TextLine};
 ghost use Rattle.lift_model.specs.Valid.{most_states, most_choices};
-ghost use Rattle.drn_read.specs.Faults.{first_of, fault_of, told};
+ghost use Rattle.drn_read.specs.Faults.{first_of, fault_of, reported};
 ghost use Rattle.drn_read.specs.Parts.{last, is_empty};
 ghost use Rattle.drn_read.specs.States.{is_transition, target_of, entry_value};
 ghost use Rattle.drn_read.specs.Judging.{model_fault, words_fault, transition_fault, target_fault};
@@ -369,7 +369,7 @@ impl ModelReader {
     ) -> Result<(), DrnError>
         ensures fault { (source : TextLine) → line ≡ source.number
             → TellsLine result (first_of (choiceless self.old
-            ∷ told source.number (state_fault (length self.old) (left words.entry)) ∷ [])) }
+            ∷ reported source.number (state_fault (length self.old) (left words.entry)) ∷ [])) }
         ensures after { OnOk result (self.new
             ≡ self.old ++ new_state label.now line (drop 1 (left words.entry)) ∷ []) }
     {

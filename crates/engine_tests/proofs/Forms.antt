@@ -8,7 +8,7 @@ use Rattle.corner_lift.specs.Certificate.{unmarked, mark}
 use Rattle.lift_cert.specs.RejectMiss.{HasRejectForm, IsUnmarked, IsMarked}
 use Rattle.engine_tests.specs.Lane.{IsInLane}
 
--- the certificate with these numbers, the pick and the rank of state 0, and this e
+-- the certificate with these numbers, the chosen row and the rank of state 0, and this e
 abbrev pub data_of : List ℤ → ℕ → ℕ → ℕ → RejectData
 data_of y pick rank e = record { numbers = y; picks = pick ∷ unmarked ∷ unmarked ∷ []; ranks = rank ∷ 0 ∷ unmarked ∷ []; e = e; k = 1 }
 

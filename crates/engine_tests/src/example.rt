@@ -12,7 +12,7 @@ use lift_model::{Links, Model};
 use std::alloc::{AllocError, Global};
 use std::string::String;
 use test_cases::{Asker, Scope, ask_over};
-use test_cells::Untold;
+use test_cells::Unreported;
 
 /// Lines that stand between semicolons, each with its line feed.
 pub(crate) fn lines_of(alloc: Global, lines: &str) -> Result<Vec<u8>, AllocError> {
@@ -25,7 +25,7 @@ pub(crate) fn lines_of(alloc: Global, lines: &str) -> Result<Vec<u8>, AllocError
 }
 
 /// The model of a text whose lines stand between semicolons; its goal states carry the label `goal`.
-pub(crate) fn model_of(alloc: Global, lines: &str) -> Result<Model, Untold> {
+pub(crate) fn model_of(alloc: Global, lines: &str) -> Result<Model, Unreported> {
     let text = lines_of(alloc, lines)?;
     test_cases::model_of(alloc, &text, b"goal")
 }
@@ -37,7 +37,7 @@ pub(crate) fn ask_text<A: Asker>(
     region: &[u8],
     w: u32,
     asker: &A,
-) -> Result<A::Told, Untold>
+) -> Result<A::Reported, Unreported>
     requires low { 1 ≤ w }
     requires high { w ≤ most_precision }
 {
@@ -47,9 +47,9 @@ pub(crate) fn ask_text<A: Asker>(
         depth: 0,
         w,
     };
-    let told = ask_over(alloc, &model, scope, asker);
+    let reported = ask_over(alloc, &model, scope, asker);
     drop(model);
-    told
+    reported
 }
 
 /// The text of a process with parameters, of the choices of its initial state 0 and those of a state 3, if there is one. State 1

@@ -1,4 +1,4 @@
 pub mod Notes
 pub mod Part
 pub mod Rule
-pub mod Toll
+pub mod Reward

@@ -29,8 +29,8 @@ const LOST_HALF: u64 = 1 << (LOST_BITS - 1);
 /// How often the choices and corners that count are found anew.
 const ROUNDS: u32 = 24;
 
-/// How often where there are tolls, since those that are cut off are found one by one.
-const TOLLED_ROUNDS: u32 = 256;
+/// How often where there are rewards, since those that are cut off are found one by one.
+const REWARDED_ROUNDS: u32 = 256;
 
 /// What counts of a state's rows: the outlook, and a number that tells choices and corners apart.
 #[derive(Clone, Copy)]
@@ -196,8 +196,8 @@ impl Part<'_> {
             }
             at = at.wrapping_add(1);
         }
-        if self.tolled {
-            outlook = outlook.plus(self.toll_of(s) * whole);
+        if self.rewarded {
+            outlook = outlook.plus(self.reward_of(s) * whole);
         }
         outlook
     }
@@ -268,7 +268,7 @@ impl Part<'_> {
     /// Whether what counts of a state is cut off at 1.
     #[inline(always)]
     fn is_cut_off(&self, outlook: &Outlook) -> bool {
-        self.tolled && outlook.worth() >= 1.0
+        self.rewarded && outlook.worth() >= 1.0
     }
 
     /// Puts the states in, from the first position on, as long as that does.
@@ -340,7 +340,11 @@ impl Part<'_> {
             lane.old lane.new }
     {
         let mut last = 0;
-        let rounds = if self.tolled { TOLLED_ROUNDS } else { ROUNDS };
+        let rounds = if self.rewarded {
+            REWARDED_ROUNDS
+        } else {
+            ROUNDS
+        };
         for _ in 0..rounds {
             match self.put_in(lane, means, noted) {
                 Eliminated::All(marks) => {

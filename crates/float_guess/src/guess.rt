@@ -36,7 +36,7 @@ pub enum Rounding {
 
 /// How a guess is made.
 #[derive(Clone, Copy)]
-pub enum Way {
+pub enum Method {
     /// By elimination.
     Elimination,
     /// The same, but with the choices and corners that count by what the lane holds.
@@ -64,13 +64,14 @@ impl Rounding {
     }
 }
 
-impl Way {
+impl Method {
     /// What each expected step brings besides, where the share or the part is whole and `top` stands for 1.
     fn extra(self, rounding: Rounding, top: i64) -> f64 {
         let share = match self {
-            Way::MovedElimination => SHARE,
-            Way::RoundedElimination => ROUNDED_SHARE,
-            Way::Elimination | Way::FirstElimination | Way::Sweeps(_) | Way::Nothing => 0.0,
+            Method::MovedElimination => SHARE,
+            Method::RoundedElimination => ROUNDED_SHARE,
+            Method::Elimination | Method::FirstElimination | Method::Sweeps(_) | Method::Nothing =>
+                0.0,
         };
         let extra = share / nearest_i64_to_f64(top);
         match rounding {
@@ -94,15 +95,15 @@ impl Part<'_> {
         }
     }
 
-    /// Where there are tolls, and sweeps find no end, costs may have none: each state is worth the most. False: there are no
-    /// tolls.
+    /// Where there are rewards, and sweeps find no end, costs may have none: each state is worth the most. False: there are no
+    /// rewards.
     fn take_most(&self, lane: &mut [i64]) -> bool
         requires links { AreLinks self.now.case.now.model self.now.links.now }
         requires size { length lane.old ≡ length self.now.case.now.model.states }
         ensures { IsSameBeyond self.now.rule.ends self.now.case.now self.now.links.now self.now.low self.now.high
             lane.old lane.new }
     {
-        if !self.tolled {
+        if !self.rewarded {
             return false;
         }
         for position in self.low..self.high {
@@ -112,21 +113,21 @@ impl Part<'_> {
     }
 
     /// Finds what the states are worth. False: it didn't.
-    fn find(&self, lane: &mut [i64], means: &mut [u32], noted: &mut [u32], way: Way) -> bool
+    fn find(&self, lane: &mut [i64], means: &mut [u32], noted: &mut [u32], method: Method) -> bool
         requires links { AreLinks self.now.case.now.model self.now.links.now }
         requires size { length lane.old ≡ length self.now.case.now.model.states }
         ensures { IsSameBeyond self.now.rule.ends self.now.case.now self.now.links.now self.now.low self.now.high
             lane.old lane.new }
     {
-        match way {
-            Way::Elimination | Way::MovedElimination | Way::RoundedElimination => {
+        match method {
+            Method::Elimination | Method::MovedElimination | Method::RoundedElimination => {
                 self.eliminate(lane, means, noted)
                     || self.eliminate_rows(lane, noted)
                     || self.solve_policies(lane, noted)
             }
-            Way::FirstElimination => self.eliminate_once(lane, means, noted),
-            Way::Sweeps(most) => self.approach(lane, means, most) || self.take_most(lane),
-            Way::Nothing => {
+            Method::FirstElimination => self.eliminate_once(lane, means, noted),
+            Method::Sweeps(most) => self.approach(lane, means, most) || self.take_most(lane),
+            Method::Nothing => {
                 self.scale(lane, 0);
                 true
             }
@@ -180,7 +181,7 @@ pub fn guess_part(
     noted: &mut [u32],
     low: u32,
     high: u32,
-    way: Way,
+    method: Method,
 ) -> bool
     requires { CanGuess case.now links.now lane.old }
     ensures { KeepsBeyond rule.entry.ends case.now links.now low high lane.old lane.new }
@@ -193,21 +194,21 @@ pub fn guess_part(
         weights: &*weights,
         rule,
         top,
-        extra: way.extra(rounding, top),
-        tolled: rule.ends.has_tolls(),
+        extra: method.extra(rounding, top),
+        rewarded: rule.ends.has_rewards(),
         low,
         high,
     };
     let unit = ONE.checked_div(top).unwrap_or(1);
     part.scale(lane, unit);
-    let done = part.find(lane, means, noted, way);
+    let done = part.find(lane, means, noted, method);
     part.round(lane, rounding, unit);
     done
 }
 
 /// Notes of each state whose number isn't given, at its position, which part of a unit rounding adds to the mean that
-/// counts of the numbers in the lane, with the state's toll: the levels of the shares are lost, but no number that is
-/// noted. So `Way::RoundedElimination` guesses what rounding up makes of them.
+/// counts of the numbers in the lane, with the state's reward: the levels of the shares are lost, but no number that is
+/// noted. So `Method::RoundedElimination` guesses what rounding up makes of them.
 pub fn note_roundings(
     case: &Case,
     links: &Links,
@@ -228,7 +229,7 @@ pub fn note_roundings(
         rule,
         top,
         extra: 0.0,
-        tolled: rule.ends.has_tolls(),
+        rewarded: rule.ends.has_rewards(),
         low: 0,
         high: 0,
     };

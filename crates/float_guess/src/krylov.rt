@@ -64,7 +64,7 @@ struct Search {
     lack: Column,
     first: Column,
     // the direction, and what it changes
-    way: Column,
+    method: Column,
     change: Column,
     // what a second direction changes
     turn: Column,
@@ -123,7 +123,7 @@ impl Search {
             step: Column::NONE,
             lack,
             first: lack,
-            way: lack,
+            method: lack,
             change: Column::NONE,
             turn: Column::NONE,
             states,
@@ -134,7 +134,7 @@ impl Search {
     fn go(&mut self, share: f64) {
         for at in 0..self.states {
             self.step
-                .set(at, self.step.at(at) + share * self.way.at(at));
+                .set(at, self.step.at(at) + share * self.method.at(at));
             self.lack
                 .set(at, self.lack.at(at) - share * self.change.at(at));
         }
@@ -152,8 +152,8 @@ impl Search {
     /// Takes a new direction.
     fn take_way(&mut self, share: f64, old: f64) {
         for at in 0..self.states {
-            let way = self.way.at(at) - old * self.change.at(at);
-            self.way.set(at, self.lack.at(at) + share * way);
+            let method = self.method.at(at) - old * self.change.at(at);
+            self.method.set(at, self.lack.at(at) + share * method);
         }
     }
 }
@@ -312,7 +312,7 @@ impl System {
         let enough = lack.most(self.states) * SHARE;
         let mut old = search.first.times(&search.lack, self.states);
         for _ in 0..STEPS {
-            self.change(&search.way, &mut search.change);
+            self.change(&search.method, &mut search.change);
             let share = old / search.first.times(&search.change, self.states);
             search.go(share);
             self.change(&search.lack, &mut search.turn);

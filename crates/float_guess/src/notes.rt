@@ -62,13 +62,13 @@ impl Note {
         requires { pos 0 ≤ℤ number }
     {
         let words = WORDS as i64;
-        let way = i64::from(low_word_of(number)) - i64::from(self.bits / LEVELS);
-        if way >= words / 2 {
-            way - words
-        } else if way < -(words / 2) {
-            way + words
+        let distance = i64::from(low_word_of(number)) - i64::from(self.bits / LEVELS);
+        if distance >= words / 2 {
+            distance - words
+        } else if distance < -(words / 2) {
+            distance + words
         } else {
-            way
+            distance
         }
     }
 

@@ -26,8 +26,8 @@ pub(crate) struct Part<'a> {
     pub(crate) top: i64,
     // what each expected step brings besides, where the share or the part is whole
     pub(crate) extra: f64,
-    // whether visits add tolls
-    pub(crate) tolled: bool,
+    // whether visits add rewards
+    pub(crate) rewarded: bool,
     pub(crate) low: u32,
     pub(crate) high: u32,
 }
@@ -109,9 +109,9 @@ impl Part<'_> {
     }
 
     /// What each expected step from a state brings besides, of which that was noted: by its share, or where there are
-    /// tolls by its part.
+    /// rewards by its part.
     pub(crate) fn extra_by(&self, note: Note) -> f64 {
-        if self.tolled {
+        if self.rewarded {
             self.extra * (note.part() - LESS).max(0.0)
         } else {
             self.extra * note.share()
@@ -120,7 +120,7 @@ impl Part<'_> {
 
     /// What a visit of a state adds to what it is worth.
     #[inline(never)]
-    pub(crate) fn toll_of(&self, s: u32) -> f64 {
+    pub(crate) fn reward_of(&self, s: u32) -> f64 {
         let added = self.rule.ends.added(self.case, s);
         nearest_i64_to_f64(added) / nearest_i64_to_f64(self.top)
     }

@@ -53,8 +53,8 @@ impl Part<'_> {
                 return None;
             }
         }
-        if self.tolled {
-            leaving = leaving.with(0.0, self.toll_of(s) * self.whole(place, corner));
+        if self.rewarded {
+            leaving = leaving.with(0.0, self.reward_of(s) * self.whole(place, corner));
         }
         Some(leaving)
     }
@@ -72,7 +72,7 @@ impl Part<'_> {
         let Some(s) = self.state_at(position) else {
             return Some(Leaving::NONE);
         };
-        if self.tolled && mark == CUT_OFF {
+        if self.rewarded && mark == CUT_OFF {
             return Some(Leaving::MOST);
         }
         let a = mark / CORNERS;
@@ -141,7 +141,7 @@ impl Part<'_> {
     }
 
     /// Finds what the states are worth, with the choices and corners that count anew in each round, until the same count
-    /// again. False: it didn't. Without tolls, what each expected step brings besides is added at the end; a guess that is
+    /// again. False: it didn't. Without rewards, what each expected step brings besides is added at the end; a guess that is
     /// moved up by that follows one that isn't, or a lesser one, by which the same count mostly.
     fn solve_in_rounds(&self, lane: &mut [i64], noted: &mut [u32], system: &mut System) -> bool
         requires links { AreLinks self.now.case.now.model self.now.links.now }
@@ -149,7 +149,7 @@ impl Part<'_> {
         ensures { IsSameBeyond self.now.rule.ends self.now.case.now self.now.links.now self.now.low self.now.high
             lane.old lane.new }
     {
-        if self.extra > 0.0 && !self.tolled {
+        if self.extra > 0.0 && !self.rewarded {
             self.mark_anew(lane, noted, true);
             return self.solve_rows(lane, noted, system, true);
         }
@@ -157,11 +157,11 @@ impl Part<'_> {
             if !self.mark_anew(lane, noted, round == 0) {
                 break;
             }
-            if !self.solve_rows(lane, noted, system, self.tolled) {
+            if !self.solve_rows(lane, noted, system, self.rewarded) {
                 return false;
             }
         }
-        self.extra == 0.0 || self.tolled || self.solve_rows(lane, noted, system, true)
+        self.extra == 0.0 || self.rewarded || self.solve_rows(lane, noted, system, true)
     }
 
     /// How many entries the rows of the states' first choices have, with those that leave the part.

@@ -2,9 +2,9 @@
 //! which states have a number that is given, and what each visit adds.
 
 ghost use Rattle.std.specs.Prelude.{◌≡◌, ◌<◌, length};
-ghost use Rattle.float_guess.specs.Rule.{is_given, has_tolls, added};
+ghost use Rattle.float_guess.specs.Rule.{is_given, has_rewards, added};
 
-use crate::toll::Tolls;
+use crate::reward::Rewards;
 use corner_lift::{Case, one_at};
 use lift_model::Model;
 
@@ -27,8 +27,8 @@ pub enum Ends<'a> {
     Goals,
     /// Goal states have 0, and the other states that have none of these ranks have 1.
     Unranked(&'a [u32]),
-    /// Goal states have 0, and each visit of another state adds its toll. Numbers are cut off at 1.
-    Tolled(Tolls<'a>),
+    /// Goal states have 0, and each visit of another state adds its reward. Numbers are cut off at 1.
+    Rewarded(Rewards<'a>),
 }
 
 /// What the number of each other state is made of.
@@ -68,20 +68,20 @@ impl Ends<'_> {
         ensures { result ≡ is_given model.now self.entry s }
     {
         match self {
-            Ends::Goals | Ends::Tolled(_) => model.is_goal(s),
+            Ends::Goals | Ends::Rewarded(_) => model.is_goal(s),
             Ends::Unranked(ranks) => {
                 model.is_goal(s) || ranks.get(s as usize).copied().unwrap_or(NO_RANK) >= NO_RANK
             }
         }
     }
-    /// Whether there are tolls.
+    /// Whether there are rewards.
     #[inline(always)]
-    pub fn has_tolls(self) -> bool
-        ensures { result ≡ has_tolls self.entry }
+    pub fn has_rewards(self) -> bool
+        ensures { result ≡ has_rewards self.entry }
     {
         match self {
             Ends::Goals | Ends::Unranked(_) => false,
-            Ends::Tolled(_) => true,
+            Ends::Rewarded(_) => true,
         }
     }
 
@@ -92,9 +92,9 @@ impl Ends<'_> {
     {
         match self {
             Ends::Goals | Ends::Unranked(_) => 0,
-            Ends::Tolled(tolls) => {
+            Ends::Rewarded(rewards) => {
                 let w = case.w();
-                tolls.of(w, s).min(one_at(w) as u128) as i64
+                rewards.of(w, s).min(one_at(w) as u128) as i64
             }
         }
     }

@@ -286,14 +286,21 @@ impl Part<'_> {
         requires row { HasChoice self.now.case.now.model s a }
     {
         let targets = self.links.targets(self.links.place(s, a));
-        if self.tolled || targets.len() != 1 || targets[0] == s {
+        if self.rewarded || targets.len() != 1 || targets[0] == s {
             return None;
         }
         Some(self.worth(lane, targets[0]))
     }
 
     /// The corner of a row that counts, this one if no other is better, and what the row is worth there.
-    fn corner_that_counts(&self, lane: &[i64], s: u32, a: u32, corner: u32, toll: f64) -> (u32, f64)
+    fn corner_that_counts(
+        &self,
+        lane: &[i64],
+        s: u32,
+        a: u32,
+        corner: u32,
+        reward: f64,
+    ) -> (u32, f64)
         requires links { AreLinks self.now.case.now.model self.now.links.now }
         requires row { HasChoice self.now.case.now.model s a }
     {
@@ -302,10 +309,10 @@ impl Part<'_> {
         }
         let slack = self.slack();
         let mut best = corner;
-        let mut worth = self.mean(lane, s, a, corner, toll);
+        let mut worth = self.mean(lane, s, a, corner, reward);
         for other in 0..self.links.place(s, a).corners {
             if other != corner {
-                let mean = self.mean(lane, s, a, other, toll);
+                let mean = self.mean(lane, s, a, other, reward);
                 if is_better(self.rule.corner, mean, worth, slack) {
                     best = other;
                     worth = mean;
@@ -320,7 +327,11 @@ impl Part<'_> {
         requires links { AreLinks self.now.case.now.model self.now.links.now }
         requires state { s < length self.now.case.now.model.states }
     {
-        let toll = if self.tolled { self.toll_of(s) } else { 0.0 };
+        let reward = if self.rewarded {
+            self.reward_of(s)
+        } else {
+            0.0
+        };
         let choices = self.case.model().choices(s);
         let mut first = old / CORNERS;
         let mut corner = old % CORNERS;
@@ -328,7 +339,7 @@ impl Part<'_> {
             first = 0;
             corner = 0;
         }
-        let (corner, mut worth) = self.corner_that_counts(lane, s, first, corner, toll);
+        let (corner, mut worth) = self.corner_that_counts(lane, s, first, corner, reward);
         let mut mark = first.wrapping_mul(CORNERS).wrapping_add(corner);
         let others = match anew {
             Anew::Corner => 0,
@@ -336,14 +347,14 @@ impl Part<'_> {
         };
         for a in 0..others {
             if a != first {
-                let (corner, other) = self.corner_that_counts(lane, s, a, 0, toll);
+                let (corner, other) = self.corner_that_counts(lane, s, a, 0, reward);
                 if is_better(self.rule.choice, other, worth, self.slack()) {
                     worth = other;
                     mark = a.wrapping_mul(CORNERS).wrapping_add(corner);
                 }
             }
         }
-        if self.tolled && worth >= 1.0 {
+        if self.rewarded && worth >= 1.0 {
             mark = CUT_OFF;
         }
         mark
@@ -413,8 +424,8 @@ impl Part<'_> {
                 }
             }
         }
-        if self.tolled {
-            leaving = leaving.with(0.0, self.toll_of(s) * self.whole(place, corner));
+        if self.rewarded {
+            leaving = leaving.with(0.0, self.reward_of(s) * self.whole(place, corner));
         }
         leaving
     }
@@ -426,7 +437,7 @@ impl Part<'_> {
         let Some(s) = self.state_at(position) else {
             return Leaving::NONE;
         };
-        if self.tolled && mark == CUT_OFF {
+        if self.rewarded && mark == CUT_OFF {
             return Leaving::MOST;
         }
         let a = mark / CORNERS;
@@ -480,7 +491,7 @@ impl Part<'_> {
     }
 
     /// Finds what the states are worth by elimination, with the choices and corners that count anew in each round, until
-    /// the same count again. False: the rows have too many entries. Without tolls, what each expected step brings besides
+    /// the same count again. False: the rows have too many entries. Without rewards, what each expected step brings besides
     /// is added at the end, since it makes no choice count.
     fn eliminate_in_rounds(&self, lane: &mut [i64], noted: &mut [u32], rows: &mut Rows) -> bool
         requires links { AreLinks self.now.case.now.model self.now.links.now }
@@ -492,12 +503,12 @@ impl Part<'_> {
             if !self.mark_anew(lane, noted, round == 0) {
                 break;
             }
-            if !self.put_rows_in(lane, noted, rows, self.tolled) {
+            if !self.put_rows_in(lane, noted, rows, self.rewarded) {
                 return false;
             }
             self.take_rows_out(lane, rows);
         }
-        if self.extra == 0.0 || self.tolled {
+        if self.extra == 0.0 || self.rewarded {
             return true;
         }
         if !self.put_rows_in(lane, noted, rows, true) {

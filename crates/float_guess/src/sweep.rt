@@ -75,9 +75,9 @@ impl Sweeping {
 }
 
 impl Part<'_> {
-    /// The weighted mean of a row at a corner, of the states but its own, with the toll of each visit.
+    /// The weighted mean of a row at a corner, of the states but its own, with the reward of each visit.
     #[inline(always)]
-    pub(crate) fn mean(&self, lane: &[i64], s: u32, a: u32, corner: u32, toll: f64) -> f64
+    pub(crate) fn mean(&self, lane: &[i64], s: u32, a: u32, corner: u32, reward: f64) -> f64
         requires links { AreLinks self.now.case.now.model self.now.links.now }
         requires row { HasChoice self.now.case.now.model s a }
     {
@@ -93,8 +93,8 @@ impl Part<'_> {
             }
             at = at.wrapping_add(1);
         }
-        if self.tolled {
-            sum += toll * self.whole(place, corner);
+        if self.rewarded {
+            sum += reward * self.whole(place, corner);
         }
         if rest > 0.0 {
             sum / rest
@@ -106,14 +106,14 @@ impl Part<'_> {
     }
 
     /// The mean at the corner that counts.
-    fn choice_mean(&self, lane: &[i64], s: u32, a: u32, toll: f64) -> f64
+    fn choice_mean(&self, lane: &[i64], s: u32, a: u32, reward: f64) -> f64
         requires links { AreLinks self.now.case.now.model self.now.links.now }
         requires row { HasChoice self.now.case.now.model s a }
     {
         let corners = self.links.place(s, a).corners;
-        let mut mean = self.mean(lane, s, a, 0, toll);
+        let mut mean = self.mean(lane, s, a, 0, reward);
         for corner in 1..corners {
-            let other = self.mean(lane, s, a, corner, toll);
+            let other = self.mean(lane, s, a, corner, reward);
             mean = self.rule.corner.of(mean, other);
         }
         mean
@@ -125,9 +125,13 @@ impl Part<'_> {
         requires state { s < length self.now.case.now.model.states }
     {
         let mut mean: f64 = 0.0;
-        let toll = if self.tolled { self.toll_of(s) } else { 0.0 };
+        let reward = if self.rewarded {
+            self.reward_of(s)
+        } else {
+            0.0
+        };
         for a in 0..self.case.model().choices(s) {
-            let other = self.choice_mean(lane, s, a, toll);
+            let other = self.choice_mean(lane, s, a, reward);
             mean = if a == 0 {
                 other
             } else {
@@ -164,7 +168,7 @@ impl Part<'_> {
         step.abs()
     }
 
-    /// Notes which part of a unit rounding up adds to the mean of a state that counts, with its toll.
+    /// Notes which part of a unit rounding up adds to the mean of a state that counts, with its reward.
     pub(crate) fn note_rounding(&self, lane: &[i64], noted: &mut [u32], s: u32)
         requires links { AreLinks self.now.case.now.model self.now.links.now }
         requires state { s < length self.now.case.now.model.states }

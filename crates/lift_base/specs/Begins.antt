@@ -3,10 +3,10 @@ use Rattle.std.specs.Prelude.{◌≡◌, ℕ, List, length, take, None, Some, Is
 use Rattle.std.specs.declared.option.Option.{Option}
 
 -- how many bytes are told
-abbrev pub told_length : Option (List ℕ) → ℕ
-told_length None = 0
-told_length (Some bytes) = length bytes
+abbrev pub reported_length : Option (List ℕ) → ℕ
+reported_length None = 0
+reported_length (Some bytes) = length bytes
 
 -- the old bytes, where they are told, are told still, and stand at the front of the new ones
 abbrev pub BeginsWith : Option (List ℕ) → Option (List ℕ) → Type 0
-BeginsWith old new = IsTrue (is_some old) → option_map (take (told_length old)) new ≡ old
+BeginsWith old new = IsTrue (is_some old) → option_map (take (reported_length old)) new ≡ old

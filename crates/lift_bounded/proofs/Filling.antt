@@ -12,7 +12,7 @@ use Rattle.lift_bounded.specs.Steps.{nth, IsStart, IsLeastStep, IsGreatestStep}
 use Rattle.lift_bounded.specs.Stepping.{StepsRise}
 use Rattle.corner_lift.specs.Laws.{SumsRise}
 use Rattle.corner_lift.specs.Case.{IsInside}
-use Rattle.lift_bounded.specs.Lanes.{HasVectors, HaveRisen, HasPicks, HaveSunk}
+use Rattle.lift_bounded.specs.Lanes.{HasVectors, HaveRisen, HasChoices, HaveSunk}
 use Rattle.lift_bounded.proofs.Making.{start_rises, next_rises}
 use Rattle.lift_bounded.proofs.Inside.{in_or_past}
 
@@ -103,12 +103,12 @@ nth_marks_same lanes n x lt = rw get_or-set_same refl
 nth_marks_other : (lanes : List (List ℕ)) (n i : ℕ) (x : List ℕ) → i ≢ n → nth (set lanes n x) i ≡ nth lanes i
 nth_marks_other lanes n i x ne = rw get_or-set_other refl
 
-pub sunk_none : (k : CaseData) (spans : Spans) (h : ℕ) (lanes : List (List ℤ)) (picks : List (List ℕ)) (x : List ℤ) → HasVectors k h lanes → HasPicks k h picks → IsStart k x → HaveSunk k spans h 0 (set lanes 0 x) picks
-sunk_none k spans h lanes picks x has has_picks start =
+pub sunk_none : (k : CaseData) (spans : Spans) (h : ℕ) (lanes : List (List ℤ)) (picks : List (List ℕ)) (x : List ℤ) → HasVectors k h lanes → HasChoices k h picks → IsStart k x → HaveSunk k spans h 0 (set lanes 0 x) picks
+sunk_none k spans h lanes picks x has has_choices start =
     let at : nth (set lanes 0 x) 0 ≡ x = nth_same lanes 0 x (omega (arith, has.count)) in
     record {
       has = has_vectors_kept k h 0 lanes x has (omega arith) start.numbers.size;
-      has_picks = has_picks;
+      has_choices = has_choices;
       start = subst (IsStart k) (sym at) start;
       numbers = subst (AreNumbers k) (sym at) start.numbers;
       steps = λ i lt. absurd (omega (arith, lt));
@@ -117,18 +117,18 @@ sunk_none k spans h lanes picks x has has_picks start =
 pub sunk_more : (k : CaseData) (spans : Spans) (h n : ℕ) (lanes : List (List ℤ)) (picks : List (List ℕ)) (z : List ℤ) (p : List ℕ) → n < h → HaveSunk k spans h n lanes picks → IsGreatestStep k spans (nth lanes n) z p → HaveSunk k spans h (n + 1) (set lanes (n + 1) z) (set picks n p)
 sunk_more k spans h n lanes picks z p lt sunk step =
     let inside : n + 1 < length lanes = omega (arith, lt, sunk.has.count) in
-    let pick_inside : n < length picks = omega (arith, lt, sunk.has_picks.count) in
+    let choice_inside : n < length picks = omega (arith, lt, sunk.has_choices.count) in
     let here : nth (set lanes (n + 1) z) (n + 1) ≡ z = nth_same lanes (n + 1) z inside in
     let first : nth (set lanes (n + 1) z) 0 ≡ nth lanes 0 = nth_other lanes (n + 1) 0 z (λ e. absurd (omega (arith, e))) in
     let before : nth (set lanes (n + 1) z) n ≡ nth lanes n = nth_other lanes (n + 1) n z (λ e. absurd (omega (arith, e))) in
-    let pick_here : nth (set picks n p) n ≡ p = nth_marks_same picks n p pick_inside in
+    let choice_here : nth (set picks n p) n ≡ p = nth_marks_same picks n p choice_inside in
     record {
       has = has_vectors_kept k h (n + 1) lanes z sunk.has (omega (arith, lt)) step.lower.numbers.size;
-      has_picks = record {
-        count = length-set picks n p ∙ sunk.has_picks.count;
+      has_choices = record {
+        count = length-set picks n p ∙ sunk.has_choices.count;
         sizes = λ i below. ⊎_elim
-            (λ (same : i ≡ n). subst (λ j. length (nth (set picks n p) j) ≡ length k.model.states) (sym same) (ap (length {A = ℕ}) pick_here ∙ step.lower.size))
-            (λ (ne : i ≢ n). ap (length {A = ℕ}) (nth_marks_other picks n i p ne) ∙ sunk.has_picks.sizes i below)
+            (λ (same : i ≡ n). subst (λ j. length (nth (set picks n p) j) ≡ length k.model.states) (sym same) (ap (length {A = ℕ}) choice_here ∙ step.lower.size))
+            (λ (ne : i ≢ n). ap (length {A = ℕ}) (nth_marks_other picks n i p ne) ∙ sunk.has_choices.sizes i below)
             (same_or_not i n);
       };
       start = subst (IsStart k) (sym first) sunk.start;
@@ -137,15 +137,15 @@ sunk_more k spans h n lanes picks z p lt sunk step =
           (λ (same : i ≡ n). subst (λ j. IsGreatestStep k spans (nth (set lanes (n + 1) z) j) (nth (set lanes (n + 1) z) (j + 1)) (nth (set picks n p) j)) (sym same)
           (subst (λ y. IsGreatestStep k spans y (nth (set lanes (n + 1) z) (n + 1)) (nth (set picks n p) n)) (sym before)
           (subst (λ y. IsGreatestStep k spans (nth lanes n) y (nth (set picks n p) n)) (sym here)
-          (subst (IsGreatestStep k spans (nth lanes n) z) (sym pick_here) step))))
+          (subst (IsGreatestStep k spans (nth lanes n) z) (sym choice_here) step))))
           (λ (ne : i ≢ n).
           let less : i < n = omega (arith, below, earlier i n below ne) in
           let at : nth (set lanes (n + 1) z) i ≡ nth lanes i = nth_other lanes (n + 1) i z (λ e. absurd (omega (arith, e, less))) in
           let next : nth (set lanes (n + 1) z) (i + 1) ≡ nth lanes (i + 1) = nth_other lanes (n + 1) (i + 1) z (λ e. absurd (omega (arith, e, less))) in
-          let pick_at : nth (set picks n p) i ≡ nth picks i = nth_marks_other picks n i p ne in
+          let choice_at : nth (set picks n p) i ≡ nth picks i = nth_marks_other picks n i p ne in
           subst (λ y. IsGreatestStep k spans y (nth (set lanes (n + 1) z) (i + 1)) (nth (set picks n p) i)) (sym at)
           (subst (λ y. IsGreatestStep k spans (nth lanes i) y (nth (set picks n p) i)) (sym next)
-          (subst (IsGreatestStep k spans (nth lanes i) (nth lanes (i + 1))) (sym pick_at) (sunk.steps i less))))
+          (subst (IsGreatestStep k spans (nth lanes i) (nth lanes (i + 1))) (sym choice_at) (sunk.steps i less))))
           (same_or_not i n);
     }
   where

@@ -7,7 +7,7 @@ use Rattle.lift_pool.specs.Laws.{LanesHaveLengths, SameShapesHaveLengths}
 use Rattle.lift_model.specs.Model.{ModelData}
 use Rattle.lift_model.specs.Links.{LinksData}
 use Rattle.corner_lift.specs.Case.{CaseData}
-use Rattle.lift_bounded.specs.Lanes.{HasVectors, HasPicks}
+use Rattle.lift_bounded.specs.Lanes.{HasVectors, HasChoices}
 use Rattle.lift_bounded.specs.Rooms.{StepLanesData, AreReadyFor, HasStepLanes, KeepsShape}
 use Rattle.lift_bounded.proofs.Filling.{shape_then}
 
@@ -32,14 +32,14 @@ filled_lanes p count n fill e = ap (λ lanes. map (λ l. length l) lanes) e ∙ 
 pub vectors_kept : SameShapesHaveLengths ℤ → (k : CaseData) (h : ℕ) (p q : PoolData ℤ) → IsSameShape p q → HasVectors k h p.lanes → HasVectors k h q.lanes
 vectors_kept lengths k h p q same has = record { count = shape_count p q same ∙ has.count; sizes = λ n le. lengths p q n same ∙ has.sizes n le }
 
-pub picks_kept : SameShapesHaveLengths ℕ → (k : CaseData) (h : ℕ) (p q : PoolData ℕ) → IsSameShape p q → HasPicks k h p.lanes → HasPicks k h q.lanes
-picks_kept lengths k h p q same has = record { count = shape_count p q same ∙ has.count; sizes = λ n lt. lengths p q n same ∙ has.sizes n lt }
+pub choices_kept : SameShapesHaveLengths ℕ → (k : CaseData) (h : ℕ) (p q : PoolData ℕ) → IsSameShape p q → HasChoices k h p.lanes → HasChoices k h q.lanes
+choices_kept lengths k h p q same has = record { count = shape_count p q same ∙ has.count; sizes = λ n lt. lengths p q n same ∙ has.sizes n lt }
 
 pub vectors_of : LanesHaveLengths ℤ → (k : CaseData) (h : ℕ) (p : PoolData ℤ) → HasLanes p (h + 1) (length k.model.states) → HasVectors k h p.lanes
 vectors_of lengths k h p has = record { count = lanes_count p (h + 1) (length k.model.states) has; sizes = λ n le. (lengths p (h + 1) (length k.model.states) n has (omega (arith, le))).1 }
 
-pub picks_of : LanesHaveLengths ℕ → (k : CaseData) (h : ℕ) (p : PoolData ℕ) → HasLanes p h (length k.model.states) → HasPicks k h p.lanes
-picks_of lengths k h p has = record { count = lanes_count p h (length k.model.states) has; sizes = λ n lt. (lengths p h (length k.model.states) n has lt).1 }
+pub choices_of : LanesHaveLengths ℕ → (k : CaseData) (h : ℕ) (p : PoolData ℕ) → HasLanes p h (length k.model.states) → HasChoices k h p.lanes
+choices_of lengths k h p has = record { count = lanes_count p h (length k.model.states) has; sizes = λ n lt. (lengths p h (length k.model.states) n has lt).1 }
 
 -- ---- lanes as made
 

@@ -1,4 +1,4 @@
--- There is at most one list of least upper vectors, one of greatest lower ones with their picks, and so one right tree.
+-- There is at most one list of least upper vectors, one of greatest lower ones with their choices, and so one right tree.
 use Rattle.std.proofs.Common.{◌≡◌, ℕ, zero, suc, ◌+◌, ◌<◌, ◌≤◌, ◌⊎◌, ⊎_elim, true, false, List, [], length, ℤ, pos, refl, sym, ap, ◌∙◌, subst, arith, ext_get_or}
 use Rattle.lift_poly.proofs.Ring.{linear}
 use Rattle.lift_grid.specs.Rectangle.{Spans}
@@ -47,7 +47,7 @@ lowers_same r q a b =
     first ∙ second
 
 module _ (k : CaseData) (spans : Spans) (h : ℕ) where
-  -- no pick of the second is below that of the first
+  -- no chosen row of the second is below that of the first
   not_below : (r q : LowersData) → AreGreatestLowers k spans h r → AreGreatestLowers k spans h q → q.numbers ≡ r.numbers → (i s : ℕ) → i < h → s < length k.model.states → is_goal k.model s ≡ false → mark (nth q.picks i) s < mark (nth r.picks i) s → ⊥
   not_below r q a b same i s lt state g less =
       let held : IsHeldBy k spans (nth q.numbers i) s (mark (nth q.picks i) s) (number (nth q.numbers (i + 1)) s) = (b.lowers.steps i lt).held s state g in
@@ -61,8 +61,8 @@ module _ (k : CaseData) (spans : Spans) (h : ℕ) where
         let size : length (nth r.numbers i) ≡ length (nth q.numbers i) = (lower_numbers k spans h r a.lowers i le).size ∙ sym (lower_numbers k spans h q b.lowers i le).size in
         numbers_same (nth r.numbers i) (nth q.numbers i) size (b.greatest r a.lowers i le) (a.greatest q b.lowers i le))
 
-    pick_one : (i s : ℕ) → i < h → s < length k.model.states → mark (nth r.picks i) s ≡ mark (nth q.picks i) s
-    pick_one i s lt state = ⊎_elim
+    choice_one : (i s : ℕ) → i < h → s < length k.model.states → mark (nth r.picks i) s ≡ mark (nth q.picks i) s
+    choice_one i s lt state = ⊎_elim
         (λ (g : is_goal k.model s ≡ true). ((a.lowers.steps i lt).goal s g).1 ∙ sym ((b.lowers.steps i lt).goal s g).1)
         (λ (g : is_goal k.model s ≡ false). ⊎_elim
         (λ (less : mark (nth r.picks i) s < mark (nth q.picks i) s). absurd (not_below q r b a numbers_one i s lt state g less))
@@ -73,15 +73,15 @@ module _ (k : CaseData) (spans : Spans) (h : ℕ) where
         (in_order (mark (nth r.picks i) s) (mark (nth q.picks i) s)))
         (true_or_false (is_goal k.model s))
 
-    picks_one : r.picks ≡ q.picks
-    picks_one = ext_get_or [] r.picks q.picks (a.lowers.counts.1 ∙ sym b.lowers.counts.1)
+    choices_one : r.picks ≡ q.picks
+    choices_one = ext_get_or [] r.picks q.picks (a.lowers.counts.1 ∙ sym b.lowers.counts.1)
         (λ i lt.
         let below : i < h = omega (arith, lt, a.lowers.counts.1) in
         let size = (a.lowers.steps i below).size in
-        ext_get_or unmarked (nth r.picks i) (nth q.picks i) (size ∙ sym (b.lowers.steps i below).size) (λ s less. pick_one i s below (omega (arith, less, size))))
+        ext_get_or unmarked (nth r.picks i) (nth q.picks i) (size ∙ sym (b.lowers.steps i below).size) (λ s less. choice_one i s below (omega (arith, less, size))))
 
 pub greatest_lowers_are_one : GreatestLowersAreOne
-greatest_lowers_are_one k spans h r q a b = lowers_same r q (numbers_one k spans h r q a b) (picks_one k spans h r q a b)
+greatest_lowers_are_one k spans h r q a b = lowers_same r q (numbers_one k spans h r q a b) (choices_one k spans h r q a b)
 
 -- ---- leaves and trees
 

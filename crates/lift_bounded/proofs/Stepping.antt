@@ -16,7 +16,7 @@ use Rattle.corner_lift.specs.Table.{IsWhole}
 use Rattle.corner_lift.specs.Laws.{ParametersAreTheRoots, SumsAreInRange, HasRow}
 use Rattle.lift_bounded.specs.Steps.{IsLeastStep, IsGreatestStep}
 use Rattle.lift_bounded.specs.Stepping.{Covers, IsNeeded, IsRaised, IsLeastFor, IsUpperAt, Holds, IsMostHeld, IsGreatestFor, IsLowerAt, IsBetter, StepsRise}
-use Rattle.lift_bounded.specs.declared.steps.Picked.{Picked}
+use Rattle.lift_bounded.specs.declared.steps.Chosen.{Chosen}
 use Rattle.lift_bounded.proofs.Inside.{in_or_past, true_or_false, state_of}
 
 -- ---- order
@@ -194,7 +194,7 @@ first_held k spans y s v h = record {
   lowest = λ a lt holds. absurd (omega (arith, lt));
 }
 
-pub one_more_held : (k : CaseData) (spans : Spans) (y : List ℤ) (s n : ℕ) (p r : Picked) (v : ℤ) → IsGreatestFor k spans y s n p → IsMostHeld k spans y s n v → IsBetter p v n r → IsGreatestFor k spans y s (n + 1) r
+pub one_more_held : (k : CaseData) (spans : Spans) (y : List ℤ) (s n : ℕ) (p r : Chosen) (v : ℤ) → IsGreatestFor k spans y s n p → IsMostHeld k spans y s n v → IsBetter p v n r → IsGreatestFor k spans y s (n + 1) r
 one_more_held k spans y s n p r v h g b = by_lt_z p.number v
     (λ lt.
     let is = b.more lt in
@@ -338,10 +338,10 @@ set_both P z picks s v p lt less here before i below = ⊎_elim
     (λ (earlier : i < s).
     let ne : i ≢ s = λ e. absurd (omega (arith, e, earlier)) in
     let at : number (set z s v) i ≡ number z i = rw get_or-set_other refl in
-    let pick_at : mark (set picks s p) i ≡ mark picks i = rw get_or-set_other refl in
-    subst (λ m. P i (number (set z s v) i) m) (sym pick_at) (subst (λ m. P i m (mark picks i)) (sym at) (before i earlier)))
+    let choice_at : mark (set picks s p) i ≡ mark picks i = rw get_or-set_other refl in
+    subst (λ m. P i (number (set z s v) i) m) (sym choice_at) (subst (λ m. P i m (mark picks i)) (sym at) (before i earlier)))
     (λ (same : i ≡ s).
     let at : number (set z s v) s ≡ v = rw get_or-set_same refl in
-    let pick_at : mark (set picks s p) s ≡ p = rw get_or-set_same refl in
-    subst (λ j. P j (number (set z s v) j) (mark (set picks s p) j)) (sym same) (subst (λ m. P s (number (set z s v) s) m) (sym pick_at) (subst (λ m. P s m p) (sym at) here)))
+    let choice_at : mark (set picks s p) s ≡ p = rw get_or-set_same refl in
+    subst (λ j. P j (number (set z s v) j) (mark (set picks s p) j)) (sym same) (subst (λ m. P s (number (set z s v) s) m) (sym choice_at) (subst (λ m. P s m p) (sym at) here)))
     (one_more i s below)

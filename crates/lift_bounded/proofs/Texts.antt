@@ -5,7 +5,7 @@ use Rattle.std.specs.Fmt.{decimal, signed_decimal}
 use Prim.Native.Char.{code}
 use Rattle.cert_text.specs.Report.{line, mark_word}
 use Rattle.lift_bounded.specs.Steps.{nth, LowersData}
-use Rattle.lift_bounded.specs.Text.{for_steps, lower_text, numbers_line, picks_line, reject_line}
+use Rattle.lift_bounded.specs.Text.{for_steps, lower_text, numbers_line, choices_line, reject_line}
 
 line-words : {X : Type 0} (f : X → List ℕ) (word : List ℕ) (xs : List X) → line (word ∷ map f xs) ≡ word ++ (flat_map (λ x. code " " ∷ f x) xs ++ codes "\n")
 line-words f word [] = refl
@@ -19,14 +19,14 @@ step-line f key n xs = ap (λ (r : List ℕ). key ++ (codes " " ++ r)) (line-wor
 pub next_step : (text : ℕ → List ℕ) (n h : ℕ) → n < h → for_steps text (n + 1) (h - n) ≡ text (n + 1) ++ for_steps text (n + 1 + 1) (h - (n + 1))
 next_step text n h lt = let more : h - n ≡ suc (h - (n + 1)) = omega (arith, lt) in ap (for_steps text (n + 1)) more
 
--- the picks for n steps, as they are written
-pub picks-line : (n : ℕ) (picks : List ℕ) → picks_line n picks ≡ (codes "choice " ++ decimal n) ++ (flat_map (λ m. code " " ∷ mark_word m) picks ++ codes "\n")
+-- the choices for n steps, as they are written
+pub picks-line : (n : ℕ) (picks : List ℕ) → choices_line n picks ≡ (codes "choice " ++ decimal n) ++ (flat_map (λ m. code " " ∷ mark_word m) picks ++ codes "\n")
 picks-line n picks = step-line mark_word (codes "choice") n picks ∙ sym (append_assoc (codes "choice ") (decimal n) (flat_map (λ m. code " " ∷ mark_word m) picks ++ codes "\n"))
 
 -- the first line of a rejecting leaf, as it is written
 pub reached-line : (y : ℤ) (z : ℕ) → reject_line y z ≡ codes "reject b " ++ (signed_decimal y ++ (codes "/" ++ (decimal z ++ codes "\n")))
 reached-line y z = ap (λ (rest : List ℕ). codes "reject b " ++ rest) (append_assoc (signed_decimal y) (codes "/" ++ decimal z) (codes "\n"))
 
--- the lower vector of n + 1 steps with its picks
-pub lower-text : (r : LowersData) (n : ℕ) → lower_text r (n + 1) ≡ numbers_line (codes "y") (n + 1) (nth r.numbers (n + 1)) ++ picks_line (n + 1) (nth r.picks n)
-lower-text r n = let same : n + 1 - 1 ≡ n = omega arith in ap (λ i. numbers_line (codes "y") (n + 1) (nth r.numbers (n + 1)) ++ picks_line (n + 1) (nth r.picks i)) same
+-- the lower vector of n + 1 steps with its choices
+pub lower-text : (r : LowersData) (n : ℕ) → lower_text r (n + 1) ≡ numbers_line (codes "y") (n + 1) (nth r.numbers (n + 1)) ++ choices_line (n + 1) (nth r.picks n)
+lower-text r n = let same : n + 1 - 1 ≡ n = omega arith in ap (λ i. numbers_line (codes "y") (n + 1) (nth r.numbers (n + 1)) ++ choices_line (n + 1) (nth r.picks i)) same

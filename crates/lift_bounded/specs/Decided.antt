@@ -1,4 +1,4 @@
--- What decides a rectangle for a number of steps: the leaves of the right tree, and that of a verdict with the vectors and picks that stand in the lanes.
+-- What decides a rectangle for a number of steps: the leaves of the right tree, and that of a verdict with the vectors and choices that stand in the lanes.
 use Rattle.std.specs.Prelude.{ℕ, List, ℤ, Option, MatchOption}
 use Rattle.lift_grid.specs.Rectangle.{Spans}
 use Rattle.corner_lift.specs.Case.{CaseData}
@@ -26,7 +26,7 @@ IsOpenWithin k bound h spans = NoneAccept k spans bound h × NoneReject k spans 
 abbrev pub IsRightWithin : CaseData → Bound → ℕ → Spans → ℕ → Halved BoundedLeaf → Type 0
 IsRightWithin k bound h spans depth tree = IsRightBy (DecidesWithin k bound h) (IsOpenWithin k bound h) k spans depth tree
 
--- the leaf of a verdict, with the vectors and picks that stand in the lanes
+-- the leaf of a verdict, with the vectors and choices that stand in the lanes
 abbrev pub leaf_of : List (List ℤ) → List (List ℕ) → Verdict → BoundedLeaf
 leaf_of lanes picks Accept = BoundedLeaf.accept lanes
 leaf_of lanes picks Reject = BoundedLeaf.reject (record { numbers = lanes; picks = picks })

@@ -11,7 +11,7 @@ use Rattle.lift_walk.specs.Sides.{IsMadeForSides}
 abbrev pub most_steps : ℕ
 most_steps = 64
 
--- What the decision of a rectangle works in: the table of corner weights, a lane for the vector of each number of steps from 0 on, one for the picks of each from 1 on, and a place for each state of the vector and of the picks that are made.
+-- What the decision of a rectangle works in: the table of corner weights, a lane for the vector of each number of steps from 0 on, one for the choices of each from 1 on, and a place for each state of the vector and of the choices that are made.
 pub record StepLanesData : Type 0 where
   pub weights : List ℤ
   pub numbers : PoolData ℤ

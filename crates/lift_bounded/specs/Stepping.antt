@@ -6,7 +6,7 @@ use Rattle.corner_lift.specs.Case.{CaseData, row_value, row_whole, corner_count,
 use Rattle.corner_lift.specs.Certificate.{AreNumbers, AtMost, unmarked}
 use Rattle.corner_lift.specs.Lifted.{LiftedData, IsLiftedTo}
 use Rattle.lift_bounded.specs.Steps.{IsUpperStep}
-use Rattle.lift_bounded.specs.declared.steps.Picked.{Picked}
+use Rattle.lift_bounded.specs.declared.steps.Chosen.{Chosen}
 
 -- what a step needs: the table of a rectangle inside the case's root, and the vector of one step less
 pub record CanStep (t : LiftedData) (spans : Spans) (x : List ℤ) : Type 0 where
@@ -57,19 +57,19 @@ pub record IsMostHeld (k : CaseData) (spans : Spans) (y : List ℤ) (s a : ℕ) 
   pub most : (u : ℤ) → Holds k spans y s a u → u ≤ℤ v
 
 -- the greatest number that one of the first choices of a state holds, of so many, with the lowest one that does
-pub record IsGreatestFor (k : CaseData) (spans : Spans) (y : List ℤ) (s n : ℕ) (p : Picked) : Type 0 where
+pub record IsGreatestFor (k : CaseData) (spans : Spans) (y : List ℤ) (s n : ℕ) (p : Chosen) : Type 0 where
   pub range : (pos 0 ≤ℤ p.number) × (p.number ≤ℤ pos (2 ^ k.w))
   pub in_range : p.pick < n
   pub holds : Holds k spans y s p.pick p.number
   pub greatest : (a : ℕ) (u : ℤ) → a < n → Holds k spans y s a u → u ≤ℤ p.number
   pub lowest : (a : ℕ) → a < p.pick → Holds k spans y s a p.number → ⊥
 
--- the number of a state and its pick in the greatest lower vector of one step more
+-- the number of a state and its chosen row in the greatest lower vector of one step more
 pub record IsLowerAt (k : CaseData) (spans : Spans) (y : List ℤ) (s : ℕ) (v : ℤ) (pick : ℕ) : Type 0 where
   pub goal : is_goal k.model s ≡ true → (v ≡ pos (2 ^ k.w)) × (pick ≡ unmarked)
   pub other : is_goal k.model s ≡ false → IsGreatestFor k spans y s (length (choices k.model s)) (record { number = v; pick = pick })
 
 -- the best of the choices so far and one more
-pub record IsBetter (old : Picked) (v : ℤ) (a : ℕ) (new : Picked) : Type 0 where
+pub record IsBetter (old : Chosen) (v : ℤ) (a : ℕ) (new : Chosen) : Type 0 where
   pub more : old.number <ℤ v → (new.number ≡ v) × (new.pick ≡ a)
   pub same : v ≤ℤ old.number → new ≡ old

@@ -42,24 +42,24 @@ pub record AreAccepting (k : CaseData) (spans : Spans) (bound : Bound) (h : ℕ)
 
 -- ---- below
 
--- a state's pick holds its number z over y: at each corner of the row the weighted mean of y is at least z
+-- a state's chosen row holds its number z over y: at each corner of the row the weighted mean of y is at least z
 pub record IsHeldBy (k : CaseData) (spans : Spans) (y : List ℤ) (s a : ℕ) (z : ℤ) : Type 0 where
   pub in_range : a < length (choices k.model s)
   pub means : MeansAtLeast k spans (row_at k.model s a) (number y) z
 
--- z is a lower vector of one step more than y, with these picks: 2 ^ w on goal states, which have no pick, and each other state is held by its pick
+-- z is a lower vector of one step more than y, with these choices: 2 ^ w on goal states, which have no chosen row, and each other state is held by its chosen row
 pub record IsLowerStep (k : CaseData) (spans : Spans) (y z : List ℤ) (picks : List ℕ) : Type 0 where
   pub numbers : AreNumbers k z
   pub size : length picks ≡ length k.model.states
   pub goal : (s : ℕ) → is_goal k.model s ≡ true → (number z s ≡ pos (2 ^ k.w)) × (mark picks s ≡ unmarked)
   pub held : (s : ℕ) → s < length k.model.states → is_goal k.model s ≡ false → IsHeldBy k spans y s (mark picks s) (number z s)
 
--- the vectors of a rejecting certificate by steps, from that of no step on, and the picks, from those of one step on
+-- the vectors of a rejecting certificate by steps, from that of no step on, and the choices, from those of one step on
 pub record LowersData : Type 0 where
   pub numbers : List (List ℤ)
   pub picks : List (List ℕ)
 
--- lower vectors of 0 to h steps, with their picks
+-- lower vectors of 0 to h steps, with their choices
 pub record AreLowers (k : CaseData) (spans : Spans) (h : ℕ) (r : LowersData) : Type 0 where
   pub counts : (length r.numbers ≡ h + 1) × (length r.picks ≡ h)
   pub start : IsStart k (nth r.numbers 0)
@@ -91,7 +91,7 @@ pub record IsLeastStep (k : CaseData) (spans : Spans) (x z : List ℤ) : Type 0 
   pub upper : IsUpperStep k spans x z
   pub least : (y : List ℤ) → IsUpperStep k spans x y → AtMost z y
 
--- the lower vector of one step more than y that is greatest at each state, with the lowest picks
+-- the lower vector of one step more than y that is greatest at each state, with the lowest choices
 pub record IsGreatestStep (k : CaseData) (spans : Spans) (y z : List ℤ) (picks : List ℕ) : Type 0 where
   pub lower : IsLowerStep k spans y z picks
   pub greatest : (x : List ℤ) (others : List ℕ) → IsLowerStep k spans y x others → AtMost x z

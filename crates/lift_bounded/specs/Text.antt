@@ -19,17 +19,17 @@ for_steps text n (suc count) = text n ++ for_steps text (n + 1) count
 abbrev pub numbers_line : List ℕ → ℕ → List ℤ → List ℕ
 numbers_line key n numbers = line (key ∷ decimal n ∷ map signed_decimal numbers)
 
--- the picks of the states for n steps, `-` for none
-abbrev pub picks_line : ℕ → List ℕ → List ℕ
-picks_line n picks = line (codes "choice" ∷ decimal n ∷ map mark_word picks)
+-- the choices of the states for n steps, `-` for none
+abbrev pub choices_line : ℕ → List ℕ → List ℕ
+choices_line n picks = line (codes "choice" ∷ decimal n ∷ map mark_word picks)
 
 -- of the upper vectors that of n steps
 abbrev pub upper_text : List (List ℤ) → ℕ → List ℕ
 upper_text xs n = numbers_line (codes "x") n (nth xs n)
 
--- of the lower vectors that of n steps, and its picks
+-- of the lower vectors that of n steps, and its choices
 abbrev pub lower_text : LowersData → ℕ → List ℕ
-lower_text r n = numbers_line (codes "y") n (nth r.numbers n) ++ picks_line n (nth r.picks (n - 1))
+lower_text r n = numbers_line (codes "y") n (nth r.numbers n) ++ choices_line n (nth r.picks (n - 1))
 
 -- the first line of a rejecting leaf: the initial state's number y over z
 abbrev pub reject_line : ℤ → ℕ → List ℕ
@@ -39,7 +39,7 @@ reject_line y z = line (codes "reject" ∷ codes "b" ∷ (signed_decimal y ++ co
 abbrev pub accept_text : ℕ → List (List ℤ) → List ℕ
 accept_text h xs = line (codes "accept" ∷ []) ++ for_steps (upper_text xs) 1 h
 
--- a rejecting leaf: what is reached within h steps, and its vectors and picks of 1 to h steps
+-- a rejecting leaf: what is reached within h steps, and its vectors and choices of 1 to h steps
 abbrev pub reject_text : CaseData → ℕ → LowersData → List ℕ
 reject_text k h r = reject_line (number (nth r.numbers h) k.model.init) (2 ^ k.w) ++ for_steps (lower_text r) 1 h
 

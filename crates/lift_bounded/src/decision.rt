@@ -8,7 +8,7 @@ ghost use Rattle.corner_lift.specs.Case.{AreSidesInside, number};
 ghost use Rattle.corner_lift.specs.Lifted.{IsLiftedTo};
 ghost use Rattle.lift_cert.specs.Certificate.{IsBeyond, IsWithin};
 ghost use Rattle.lift_bounded.specs.Decided.{IsDecidedWithin};
-ghost use Rattle.lift_bounded.specs.Lanes.{HasPicks, HasVectors};
+ghost use Rattle.lift_bounded.specs.Lanes.{HasChoices, HasVectors};
 ghost use Rattle.lift_bounded.specs.Rooms.{HasStepLanes, KeepsShape};
 
 use crate::decider::StepDecider;
@@ -48,7 +48,7 @@ fn decide_in(
     ghost spans: { Spans }
     requires lifted { IsLiftedTo rows.now spans }
     requires numbers { HasVectors rows.now.case h numbers.old.lanes }
-    requires picks { HasPicks rows.now.case h picks.old.lanes }
+    requires picks { HasChoices rows.now.case h picks.old.lanes }
     requires work { length work.old ≡ length rows.now.case.model.states }
     requires marks { length marks.old ≡ length rows.now.case.model.states }
     ensures numbers { IsSameShape numbers.old numbers.new }
@@ -69,7 +69,7 @@ fn decide_in(
 }
 
 /// Decides the rectangle that has these sides. Accept leaves the least upper vectors in the lanes, Reject the greatest
-/// lower ones and their picks; None comes exactly where there is no certificate of either kind. Takes no memory.
+/// lower ones and their choices; None comes exactly where there is no certificate of either kind. Takes no memory.
 pub(crate) fn decide_over(
     decider: &StepDecider,
     lanes: &mut StepLanes,

@@ -38,7 +38,7 @@ pub fn steps_make_certificates()
 }
 
 /// A rectangle has at most one list of least upper vectors for a number of steps, and at most one of greatest lower
-/// ones with their picks. It does nothing.
+/// ones with their choices. It does nothing.
 pub fn certificates_by_steps_are_one()
     ensures least { LeastUppersAreOne }
     ensures greatest { GreatestLowersAreOne }

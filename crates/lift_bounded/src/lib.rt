@@ -1,5 +1,5 @@
-//! Bounded steps: certificates of what is reached within a number of steps, the right tree for such a bound, and its
-//! text.
+//! Bounded steps (step-bounded reachability, by backward induction): certificates of what is reached within a number of
+//! steps, the right tree for such a bound, and its text.
 #![tactic(auto)]
 
 mod decider;

@@ -17,11 +17,11 @@ pub(crate) struct StepLanes {
     pub(crate) weights: Vec<i128>,
     /// The vector of each number of steps, from 0 on.
     pub(crate) numbers: Pool<i64>,
-    /// The picks of each number of steps, from 1 on.
+    /// The choices of each number of steps, from 1 on.
     pub(crate) picks: Pool<u32>,
     /// The vector that is made.
     pub(crate) work: Vec<i64>,
-    /// The picks that are made.
+    /// The choices that are made.
     pub(crate) marks: Vec<u32>,
 }
 

@@ -1,4 +1,4 @@
-//! Vectors of one step more: the least upper one, and the greatest lower one with its picks. Each row is looked at
+//! Vectors of one step more: the least upper one, and the greatest lower one with its choices. Each row is looked at
 //! once.
 
 ghost use Rattle.std.specs.Prelude.{◌≡◌, ◌^◌, ◌<◌, ◌≤ℤ◌, pos, length, IfSome, IsFalse};
@@ -20,12 +20,12 @@ ghost use Rattle.lift_bounded.specs.Stepping.{
 
 use corner_lift::{Lifted, Weighed, rounded_down, rounded_up_from, rows_at_corners};
 
-/// In place of a pick where a state has none.
+/// In place of a chosen row where a state has none.
 const UNMARKED: u32 = u32::MAX;
 
 /// A number that a choice holds, and the choice.
 #[derive(Clone, Copy)]
-pub(crate) struct Picked {
+pub(crate) struct Chosen {
     pub number: i64,
     pub pick: u32,
 }
@@ -132,19 +132,19 @@ fn covering(rows: &Lifted, old: &[i64], s: u32) -> i64
     number
 }
 
-/// The better one of a pick and a further choice.
-fn better(picked: Picked, number: i64, pick: u32) -> Picked
-    ensures { IsBetter picked number pick result }
+/// The better one of a chosen row and a further choice.
+fn better(chosen: Chosen, number: i64, pick: u32) -> Chosen
+    ensures { IsBetter chosen number pick result }
 {
-    if picked.number < number {
-        Picked { number, pick }
+    if chosen.number < number {
+        Chosen { number, pick }
     } else {
-        picked
+        chosen
     }
 }
 
 /// The greatest number that a choice of a state holds, and the lowest choice that does.
-fn best(rows: &Lifted, old: &[i64], s: u32) -> Picked
+fn best(rows: &Lifted, old: &[i64], s: u32) -> Chosen
     ghost spans: { Spans }
     requires can { CanStep rows.now spans old.now }
     requires state { s < length rows.now.case.model.states }
@@ -152,12 +152,12 @@ fn best(rows: &Lifted, old: &[i64], s: u32) -> Picked
 {
     let _ = rows.w();
     let number = held(rows, old, s, 0);
-    let mut picked = Picked { number, pick: 0 };
+    let mut chosen = Chosen { number, pick: 0 };
     for a in 1..rows.choice_count(s) {
         let other = held(rows, old, s, a);
-        picked = better(picked, other, a);
+        chosen = better(chosen, other, a);
     }
-    picked
+    chosen
 }
 
 /// The number of a state in the least upper vector of one step more.
@@ -174,15 +174,15 @@ fn upper_at(rows: &Lifted, old: &[i64], s: u32) -> i64
     }
 }
 
-/// The number of a state and its pick in the greatest lower vector of one step more.
-fn lower_at(rows: &Lifted, old: &[i64], s: u32) -> Picked
+/// The number of a state and its chosen row in the greatest lower vector of one step more.
+fn lower_at(rows: &Lifted, old: &[i64], s: u32) -> Chosen
     ghost spans: { Spans }
     requires can { CanStep rows.now spans old.now }
     requires state { s < length rows.now.case.model.states }
     ensures { IsLowerAt rows.now.case spans old.now s result.number result.pick }
 {
     if rows.model().is_goal(s) {
-        Picked {
+        Chosen {
             number: rows.top(),
             pick: UNMARKED,
         }
@@ -221,7 +221,7 @@ pub(crate) fn step_up(rows: &Lifted, old: &[i64], new: &mut [i64]) -> bool
     changed
 }
 
-/// Leaves in `new` and `picks` the greatest lower vector of one step more than `old`, with its picks, and tells
+/// Leaves in `new` and `picks` the greatest lower vector of one step more than `old`, with its choices, and tells
 /// whether it is another vector.
 pub(crate) fn step_down(rows: &Lifted, old: &[i64], new: &mut [i64], picks: &mut [u32]) -> bool
     ghost spans: { Spans }
@@ -235,7 +235,7 @@ pub(crate) fn step_down(rows: &Lifted, old: &[i64], new: &mut [i64], picks: &mut
     let _ = rows.w();
     let mut changed = false;
     for s in 0..rows.model().states() {
-        let Picked { number, pick } = lower_at(rows, old, s);
+        let Chosen { number, pick } = lower_at(rows, old, s);
         new[s as usize] = number;
         picks[s as usize] = pick;
         changed = is_changed(changed, old[s as usize], number);

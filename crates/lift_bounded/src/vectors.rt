@@ -5,7 +5,7 @@ ghost use Rattle.std.specs.Prelude.{◌≡◌, length, IsFalse};
 ghost use Rattle.lift_pool.specs.Shapes.{IsSameShape};
 ghost use Rattle.lift_grid.specs.Rectangle.{Spans};
 ghost use Rattle.corner_lift.specs.Lifted.{IsLiftedTo};
-ghost use Rattle.lift_bounded.specs.Lanes.{HasPicks, HasVectors};
+ghost use Rattle.lift_bounded.specs.Lanes.{HasChoices, HasVectors};
 ghost use Rattle.lift_bounded.specs.Steps.{AreGreatestLowers, AreLeastUppers, IsGreatestStep, IsLeastStep, IsStart};
 ghost use Rattle.lift_bounded.specs.Stepping.{CanStep, StepsRise};
 
@@ -43,7 +43,7 @@ fn next_up(rows: &Lifted, old: &[i64], work: &mut [i64], rising: bool) -> bool
     }
 }
 
-/// The same of the greatest lower vector and its picks.
+/// The same of the greatest lower vector and its choices.
 fn next_down(rows: &Lifted, old: &[i64], work: &mut [i64], marks: &mut [u32], rising: bool) -> bool
     ghost spans: { Spans }
     requires can { CanStep rows.now spans old.now }
@@ -82,7 +82,7 @@ pub(crate) fn least_uppers(rows: &Lifted, h: u32, numbers: &mut Pool<i64>, work:
     }
 }
 
-/// Leaves in the lanes the greatest lower vectors of 0 to h steps, and their picks. `work` and `marks` have a
+/// Leaves in the lanes the greatest lower vectors of 0 to h steps, and their choices. `work` and `marks` have a
 /// place for each state.
 pub(crate) fn greatest_lowers(
     rows: &Lifted,
@@ -95,7 +95,7 @@ pub(crate) fn greatest_lowers(
     ghost spans: { Spans }
     requires lifted { IsLiftedTo rows.now spans }
     requires numbers { HasVectors rows.now.case h numbers.old.lanes }
-    requires picks { HasPicks rows.now.case h picks.old.lanes }
+    requires picks { HasChoices rows.now.case h picks.old.lanes }
     requires work { length work.old ≡ length rows.now.case.model.states }
     requires marks { length marks.old ≡ length rows.now.case.model.states }
     ensures lowers { AreGreatestLowers rows.now.case spans h (record { numbers = numbers.new.lanes; picks = picks.new.lanes }) }

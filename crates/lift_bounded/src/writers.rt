@@ -3,13 +3,13 @@
 ghost use Rattle.std.specs.Prelude.{◌≡◌, ◌+◌, ◌++◌, ◌^◌, length, codes};
 ghost use Rattle.lift_base.specs.Outside.{Wrote};
 ghost use Rattle.corner_lift.specs.Case.{number};
-ghost use Rattle.lift_bounded.specs.Lanes.{HasPicks, HasVectors};
+ghost use Rattle.lift_bounded.specs.Lanes.{HasChoices, HasVectors};
 ghost use Rattle.lift_bounded.specs.Text.{
   accept_text,
   for_steps,
   lower_text,
   numbers_line,
-  picks_line,
+  choices_line,
   reject_line,
   reject_text,
   upper_text,
@@ -40,9 +40,9 @@ fn write_numbers<'x, K: Sink>(
     )
 }
 
-/// Writes the picks of the states for n steps.
-fn write_picks<K: Sink>(out: &mut K, n: u32, picks: &[u32]) -> Result<(), WriteFault>
-    ensures { Wrote K.taken K.faults out.old out.new result (picks_line n picks.now) }
+/// Writes the choices of the states for n steps.
+fn write_choices<K: Sink>(out: &mut K, n: u32, picks: &[u32]) -> Result<(), WriteFault>
+    ensures { Wrote K.taken K.faults out.old out.new result (choices_line n picks.now) }
 {
     writes_in_turn::<K>();
     write_words(out, &[Word::Text(b"choice "), Word::Count(u64::from(n))])?;
@@ -76,7 +76,7 @@ pub(crate) fn write_accept<K: Sink>(
     write_uppers(out, h, numbers)
 }
 
-/// Writes the vector of n steps and its picks.
+/// Writes the vector of n steps and its choices.
 fn write_lower<K: Sink>(
     out: &mut K,
     n: u32,
@@ -84,14 +84,14 @@ fn write_lower<K: Sink>(
     picks: &[u32],
 ) -> Result<(), WriteFault>
     ensures { Wrote K.taken K.faults out.old out.new result
-        (numbers_line (codes "y") n numbers.now ++ picks_line n picks.now) }
+        (numbers_line (codes "y") n numbers.now ++ choices_line n picks.now) }
 {
     writes_in_turn::<K>();
     write_numbers(out, b"y", n, numbers)?;
-    write_picks(out, n, picks)
+    write_choices(out, n, picks)
 }
 
-/// Writes the vectors of 1 to h steps, with their picks.
+/// Writes the vectors of 1 to h steps, with their choices.
 fn write_lowers<K: Sink>(
     out: &mut K,
     h: u32,
@@ -153,7 +153,7 @@ pub(crate) fn write_reject<K: Sink>(
     picks: &Pool<u32>,
 ) -> Result<(), WriteFault>
     requires numbers { HasVectors case.now h numbers.now.lanes }
-    requires picks { HasPicks case.now h picks.now.lanes }
+    requires picks { HasChoices case.now h picks.now.lanes }
     ensures { Wrote K.taken K.faults out.old out.new result
         (reject_text case.now h (record { numbers = numbers.now.lanes; picks = picks.now.lanes })) }
 {

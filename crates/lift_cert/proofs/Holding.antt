@@ -7,7 +7,7 @@ use Rattle.lift_model.specs.Laws.{AreNonNegative, WeightedSumsAreNotNegative, We
 use Rattle.corner_lift.specs.Certificate.{ranked_below}
 use Rattle.lift_cert.proofs.Inductive.{power-least}
 
--- y is supported by the picks, and each pick leads to lower ranks with weight at least total / rate
+-- y is supported by the choices, and each chosen row leads to lower ranks with weight at least total / rate
 pub record IsSupported (c : Process) (top : ℤ) (y : ℕ → ℤ) (pick : ℕ → ℕ) (test : ℕ → Bool) (rank : ℕ → ℕ) (rate : ℤ) (k : ℕ) : Type 0 where
   pub total : pos 0 ≤ℤ c.total
   pub top_least : pos 0 ≤ℤ top
@@ -212,7 +212,7 @@ module _ (least : WeightedSumsAreNotNegative) (rise : WeightedSumsRise) (c : Pro
   pub undecided_at : (j s : ℕ) → (undecided c pick test (k * j) s *ℤ power (power rate k) j) ≤ℤ (power (power rate k -ℤ pos 1) j *ℤ power c.total (k * j))
   undecided_at j s = rw (← blocks_is j) (undecided_bound j s)
 
-  -- what the picks reach in j blocks of k steps, at least
+  -- what the choices reach in j blocks of k steps, at least
   pub held_bound : (j s : ℕ) → (y s *ℤ (power (power rate k) j *ℤ power c.total (k * j))) ≤ℤ (top *ℤ (power (power rate k) j *ℤ memoryless_reach c pick (k * j) s) +ℤ top *ℤ (power (power rate k -ℤ pos 1) j *ℤ power c.total (k * j)))
   held_bound j s =
       let m = power (power rate k) j in

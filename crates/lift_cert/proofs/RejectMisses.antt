@@ -142,11 +142,11 @@ first_at_bound k spans bound r (Row s a c left right) before miss = absurd miss
 first_at_bound k spans bound r (Unranked s value) before miss = absurd miss
 first_at_bound k spans bound r (Rate s a c weight e all) before miss = absurd miss
 
--- by its form, a ranked state that is no goal state has a rank from 1 to k and a pick
+-- by its form, a ranked state that is no goal state has a rank from 1 to k and a chosen row
 pub marked_at : (k : CaseData) (r : RejectData) (s : ℕ) → HasRejectForm k r → is_goal k.model s ≡ false → mark r.ranks s < unmarked → IsMarked k r s
 marked_at k r s form inner lt = ⊎_elim (λ (none : IsUnmarked r s). absurd (omega (arith, none.0, lt))) (λ (is : IsMarked k r s). is) (form.others s inner)
 
--- and one without rank has no pick
+-- and one without rank has no chosen row
 pub unmarked_at : (k : CaseData) (r : RejectData) (s : ℕ) → HasRejectForm k r → is_goal k.model s ≡ false → unmarked ≤ mark r.ranks s → IsUnmarked r s
 unmarked_at k r s form inner le = ⊎_elim (λ (none : IsUnmarked r s). none) (λ (is : IsMarked k r s). absurd (omega (arith, is.rank.1, form.bounds.2, le))) (form.others s inner)
 

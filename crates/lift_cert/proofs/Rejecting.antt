@@ -13,7 +13,7 @@ use Rattle.lift_model.specs.Laws.{AreNonNegative, WeightedSumsAreNotNegative, We
 use Rattle.lift_model.specs.Model.{support, is_goal, choices, moves_at, process_at}
 use Rattle.corner_lift.specs.Corner.{corner, whole}
 use Rattle.corner_lift.specs.Case.{CaseData, IsCase, IsInside, number}
-use Rattle.corner_lift.specs.Certificate.{unmarked, mark, ranked_below, picked_row, IsHeld, IsLower, MeansAtLeast}
+use Rattle.corner_lift.specs.Certificate.{unmarked, mark, ranked_below, chosen_row, IsHeld, IsLower, MeansAtLeast}
 use Rattle.corner_lift.specs.Laws.{NumbersAreInRange, WeightsInside, SumsAreTotals, MeansAtLeastInside}
 use Rattle.lift_cert.specs.Reached.{Follows}
 use Rattle.lift_cert.specs.Laws.{is_open, LowerBounds, RejectingReaches}
@@ -47,7 +47,7 @@ module _ (least : WeightedSumsAreNotNegative) (rise : WeightedSumsRise) (numbers
   held_at : (s : ℕ) → is_open k r s ≡ true → IsHeld k spans r s
   held_at s o = let parts = open_parts (is_goal k.model s) (mark r.ranks s) o in h.held s parts.0 parts.1
 
-  chosen_is : (s : ℕ) → mark r.picks s < length (choices k.model s) → chosen (process_at k.model v) follow s ≡ moves_at v (picked_row k r s)
+  chosen_is : (s : ℕ) → mark r.picks s < length (choices k.model s) → chosen (process_at k.model v) follow s ≡ moves_at v (chosen_row k r s)
   chosen_is s lt = ap (λ a. get_or (map (moves_at v) (choices k.model s)) a []) (follows s lt) ∙ moves_of v (choices k.model s) (mark r.picks s)
 
   state_of : (s a : ℕ) → a < length (choices k.model s) → s < length k.model.states
@@ -62,17 +62,17 @@ module _ (least : WeightedSumsAreNotNegative) (rise : WeightedSumsRise) (numbers
   sums_at s o =
       let lt = (held_at s o).pick in
       let admitted = is.admitted s [] (state_of s (mark r.picks s) lt) (mark r.picks s) [] lt in
-      rw (chosen_is s lt) (omega (arith, linear, sums k.model (picked_row k r s) v admitted.sum))
+      rw (chosen_is s lt) (omega (arith, linear, sums k.model (chosen_row k r s) v admitted.sum))
 
   means_at : (s : ℕ) → is_open k r s ≡ true → (number r.numbers s *ℤ (process_at k.model v).total) ≤ℤ weighted_sum (number r.numbers) (chosen (process_at k.model v) follow s)
   means_at s o =
       let held = held_at s o in
-      rw (chosen_is s held.pick) (means k spans (picked_row k r s) (number r.numbers) (number r.numbers s) is within held.means v inside)
+      rw (chosen_is s held.pick) (means k spans (chosen_row k r s) (number r.numbers) (number r.numbers s) is within held.means v inside)
 
   rates_at : (s : ℕ) → is_open k r s ≡ true → (process_at k.model v).total ≤ℤ (weighted_sum (ranked_below (mark r.ranks) (mark r.ranks s)) (chosen (process_at k.model v) follow s) *ℤ pos (2 ^ r.e))
   rates_at s o =
       let held = held_at s o in
-      let row = picked_row k r s in
+      let row = chosen_row k r s in
       let low = ranked_below (mark r.ranks) (mark r.ranks s) in
       let rate = pos (2 ^ r.e) in
       let scaled : MeansAtLeast k spans row (λ t. low t *ℤ rate) (pos 1) = λ c lt. let at = held.rates c lt in omega (arith, linear, at, sum-times rate low (moves_at (corner k.d spans (support row) c) row), one-mul (whole k.model k.d spans row)) in
@@ -115,7 +115,7 @@ module _ (least : WeightedSumsAreNotNegative) (rise : WeightedSumsRise) (numbers
       let one : power (pos (2 ^ r.e)) r.k -ℤ pos 1 ≡ pos (2 ^ (r.e * r.k) - 1) = ap (λ b. b -ℤ pos 1) rate_is ∙ omega (arith, linear, pow_pos (r.e * r.k)) in
       ap (λ b. power b j) one ∙ power-pos_is (2 ^ (r.e * r.k) - 1) j
 
-  -- what the picks reach in j blocks of k steps, at least
+  -- what the choices reach in j blocks of k steps, at least
   pub reaches : (j s : ℕ) → (number r.numbers s *ℤ (pos (2 ^ (r.e * r.k * j)) *ℤ power (process_at k.model v).total (r.k * j))) ≤ℤ (pos (2 ^ k.w) *ℤ (pos (2 ^ (r.e * r.k * j)) *ℤ memoryless_reach (process_at k.model v) follow (r.k * j) s +ℤ pos ((2 ^ (r.e * r.k) - 1) ^ j) *ℤ power (process_at k.model v).total (r.k * j)))
   reaches j s =
       let bound = held_bound least rise (process_at k.model v) (pos (2 ^ k.w)) (number r.numbers) follow (is_open k r) (mark r.ranks) (pos (2 ^ r.e)) r.k lower_supported j s in

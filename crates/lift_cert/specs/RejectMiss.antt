@@ -17,16 +17,16 @@ use Rattle.lift_cert.specs.declared.miss.Miss.TheVariants.{Goal, Unranked, Row, 
 abbrev pub most_height : ℕ
 most_height = 65536
 
--- the state has neither a rank nor a pick
+-- the state has neither a rank nor a chosen row
 abbrev pub IsUnmarked : RejectData → ℕ → Type 0
 IsUnmarked r s = (mark r.ranks s ≡ unmarked) × (mark r.picks s ≡ unmarked)
 
--- the state has a rank from 1 to k, and picks one of its choices
+-- the state has a rank from 1 to k, and choices one of its choices
 pub record IsMarked (k : CaseData) (r : RejectData) (s : ℕ) : Type 0 where
   pub rank : (1 ≤ mark r.ranks s) × (mark r.ranks s ≤ r.k)
   pub pick : mark r.picks s < length (choices k.model s)
 
--- What may be tested: one number from 0 to 2 ^ w, one pick and one rank for each state; rank 0 and no pick on goal states, and elsewhere a rank from 1 to k and a pick, or neither.
+-- What may be tested: one number from 0 to 2 ^ w, one chosen row and one rank for each state; rank 0 and no chosen row on goal states, and elsewhere a rank from 1 to k and a chosen row, or neither.
 pub record HasRejectForm (k : CaseData) (r : RejectData) : Type 0 where
   pub numbers : AreNumbers k r.numbers
   pub sizes : (length r.picks ≡ length k.model.states) × (length r.ranks ≡ length k.model.states)

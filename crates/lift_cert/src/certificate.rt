@@ -6,7 +6,7 @@ ghost use Rattle.lift_cert.specs.RejectMiss.{HasRejectForm};
 
 use corner_lift::Case;
 
-/// In place of a rank or of a pick where a state has none.
+/// In place of a rank or of a chosen row where a state has none.
 const NONE: u32 = u32::MAX;
 
 /// A rejecting certificate that is to be tested.
@@ -80,7 +80,7 @@ impl<'a> Certificate<'a> {
         self.ranks[state as usize]
     }
 
-    /// A state's pick.
+    /// A state's chosen row.
     pub fn pick(&self, case: &Case, state: u32) -> u32
         requires form { HasRejectForm case.now self.now }
         requires state { state < length case.now.model.states }

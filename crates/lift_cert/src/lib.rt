@@ -1,4 +1,5 @@
-//! Bounds, and what certificates say of them.
+//! Bounds, and what certificates say of them: those from above (inductive upper bounds), and those from below
+//! (inductive lower bounds with a ranking function and a memoryless strategy).
 #![tactic(auto)]
 
 mod accept;

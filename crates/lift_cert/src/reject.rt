@@ -22,7 +22,7 @@ use corner_lift::{
 
 /// The row that a ranked state picks, over a rectangle.
 #[derive(Drop)]
-struct PickedRow<'a> {
+struct ChosenRow<'a> {
     case: &'a Case<'a>,
     sides: &'a [i64],
     r: &'a Certificate<'a>,
@@ -30,7 +30,7 @@ struct PickedRow<'a> {
     choice: u32,
 }
 
-impl PickedRow<'_> {
+impl ChosenRow<'_> {
     /// Tests the mean at a corner.
     fn test_mean(&self, corner: u32) -> Result<(), Miss>
         requires case { IsCase self.now.case.now }
@@ -149,7 +149,7 @@ fn test_ranked(case: &Case, sides: &[i64], r: &Certificate, state: u32) -> Resul
     ensures numbers { IfErr result HasSmallNumbers }
 {
     let choice = r.pick(case, state);
-    let row = PickedRow {
+    let row = ChosenRow {
         case: &*case,
         sides: &*sides,
         r: &*r,
@@ -235,7 +235,7 @@ fn test_limit(case: &Case, bound: Bound, r: &Certificate) -> Result<(), Miss>
     Ok(())
 }
 
-/// Whether the numbers `y` with these picks, ranks, `e` and `k` are a rejecting certificate of the
+/// Whether the numbers `y` with these choices, ranks, `e` and `k` are a rejecting certificate of the
 /// rectangle with these sides, or the first test that they fail. A state is tested before the next
 /// one. A goal state's number is 2 to the precision (`Goal`), and that of a state without rank is 0
 /// (`Unranked`). Any other state is tested at each corner of the row that it picks: the state's number
@@ -243,9 +243,9 @@ fn test_limit(case: &Case, bound: Bound, r: &Certificate) -> Result<(), Miss>
 /// rank, times 2 to the `e`, is at least the whole (`Rate`). Last, the initial state's number over 2 to
 /// the precision is above the bound (`Limit`).
 ///
-/// The sides lie inside the root. There is a number from 0 to 2^w, a pick and a rank for each state.
-/// Goal states, and no others, have rank 0; they have no pick, which is `u32::MAX`. Any other state has
-/// a rank from 1 to `k` and picks one of its choices, or it has neither, which is `u32::MAX` for both.
+/// The sides lie inside the root. There is a number from 0 to 2^w, a chosen row and a rank for each state.
+/// Goal states, and no others, have rank 0; they have no chosen row, which is `u32::MAX`. Any other state has
+/// a rank from 1 to `k` and choices one of its choices, or it has neither, which is `u32::MAX` for both.
 /// `k` is from 1 to 65,536, and `e` at most 126. Takes no memory. The rows of goal states, and those
 /// that aren't picked, aren't looked at.
 pub fn meets_reject(

@@ -1,4 +1,4 @@
--- Lower vectors: of one of the whole model, the numbers, ranks and picks of the states that are kept are one of the collapsed model, and no state's number is above that of what stands for it.
+-- Lower vectors: of one of the whole model, the numbers, ranks and choices of the states that are kept are one of the collapsed model, and no state's number is above that of what stands for it.
 use Rattle.std.proofs.Common.{◌≡◌, ℕ, zero, suc, ◌^◌, ◌<◌, ◌≤◌, Bool, true, false, cond, List, [], length, get_or, map, All, ℤ, pos, ◌*ℤ◌, ◌≤ℤ◌, ◌<ℤ◌, refl, sym, ap, subst, ◌∙◌, arith, nat_lt, ltb-true, lt-ltb}
 use Rattle.std.proofs.lemmas.List.FromFn.{get_or-map-range_with_len, length-map-range_with_len}
 use Rattle.std.specs.List.{range_with_len}
@@ -8,7 +8,7 @@ use Rattle.lift_grid.specs.Tree.{RejectData}
 use Rattle.lift_model.specs.Links.{targets_of}
 use Rattle.lift_model.specs.Model.{is_goal, row_at}
 use Rattle.corner_lift.specs.Case.{CaseData, number}
-use Rattle.corner_lift.specs.Certificate.{MeansAtLeast, IsLower, IsHeld, mark, unmarked, ranked_below, picked_row}
+use Rattle.corner_lift.specs.Certificate.{MeansAtLeast, IsLower, IsHeld, mark, unmarked, ranked_below, chosen_row}
 use Rattle.corner_lift.specs.Corner.{AtCorners, corner_sum, whole}
 use Rattle.lift_collapse.specs.Collapse.{CollapseData, IsSure, place, placed_row, collapsed}
 use Rattle.lift_collapse.proofs.Kept.{choices_kept, row_kept}
@@ -47,10 +47,10 @@ module _ (k : CaseData) (spans : Spans) (c : CollapseData) (scene : Scene k span
   range s = scene.laws.numbers k r.numbers s h.numbers
 
   -- a state that is held leads to some lower rank
-  sinks : (s : ℕ) → s < length k.model.states → IsHeld k spans r s → All (λ t. rank s ≤ rank t) (targets_of (picked_row k r s)) → ⊥
+  sinks : (s : ℕ) → s < length k.model.states → IsHeld k spans r s → All (λ t. rank s ≤ rank t) (targets_of (chosen_row k r s)) → ⊥
   sinks s lt held none =
       let a = mark r.picks s in
-      let row = picked_row k r s in
+      let row = chosen_row k r s in
       let w = whole k.model k.d spans row in
       let corner = first_corner k spans c scene s a lt held.pick in
       let low = at_most k spans c scene s a lt held.pick (ranked_below (mark r.ranks) (rank s)) (pos 0) (λ i d at. let zero_there = below_no (mark r.ranks) (rank s) (get_or (targets_of row) i d) (none i d at) in omega (arith, linear, zero_there)) 0 corner in
@@ -72,7 +72,7 @@ module _ (k : CaseData) (spans : Spans) (c : CollapseData) (scene : Scene k span
   lost_unranked_at (suc bound) s low lt e =
       held_or_zero s (scene.is.are_lost.no_goal s lt e)
       (λ ranked held. absurd (sinks s lt held
-      (λ i d at. let t = get_or (targets_of (picked_row k r s)) i d in
+      (λ i d at. let t = get_or (targets_of (chosen_row k r s)) i d in
       below_or_past (rank t) (rank s)
       (λ less. let far = lost_unranked_at bound t (omega (arith, less, low)) (targets_inside k spans c scene s (mark r.picks s) lt held.pick i d at) (scene.is.are_lost.targets s lt e (mark r.picks s) held.pick i d at).0 in
       absurd (omega (arith, far, less, ranked)))
@@ -96,7 +96,7 @@ module _ (k : CaseData) (spans : Spans) (c : CollapseData) (scene : Scene k span
       held_or_zero s sure.no_goal
       (λ ranked held.
       let a = mark r.picks s in
-      let row = picked_row k r s in
+      let row = chosen_row k r s in
       let corner = first_corner k spans c scene s a lt held.pick in
       let target = λ (i d : ℕ) (at : i < length (targets_of row)). sure.targets a held.pick i d at in
       let stand : (i d : ℕ) → (at : i < length (targets_of row)) → (y (get_or (targets_of row) i d) ≤ℤ y (standing s)) × (rank (get_or (targets_of row) i d) < unmarked → rank (standing s) ≤ rank (get_or (targets_of row) i d)) =
@@ -176,14 +176,14 @@ module _ (k : CaseData) (spans : Spans) (c : CollapseData) (scene : Scene k span
       let kept_is = scene.is.keeps i lt in
       let a = mark r.picks s in
       let rank_is : mark gathered.ranks i ≡ rank s = gather_at rank unmarked i lt in
-      let pick_is : mark gathered.picks i ≡ a = gather_at (mark r.picks) unmarked i lt in
+      let choice_is : mark gathered.picks i ≡ a = gather_at (mark r.picks) unmarked i lt in
       let number_is : number gathered.numbers i ≡ y s = gather_at y (pos 0) i lt in
       let row = row_at k.model s a in
       let placed = placed_row c row in
-      let row_is : picked_row (collapsed k c) gathered i ≡ placed = ap (λ p. row_at c.model i p) pick_is ∙ row_kept k.model c scene.is i lt a [] held.pick in
+      let row_is : chosen_row (collapsed k c) gathered i ≡ placed = ap (λ p. row_at c.model i p) choice_is ∙ row_kept k.model c scene.is i lt a [] held.pick in
       record {
         rank = (omega (arith, rank_is, held.rank.0), omega (arith, rank_is, held.rank.1));
-        pick = omega (arith, pick_is, held.pick, choices_kept k.model c scene.is i lt);
+        pick = omega (arith, choice_is, held.pick, choices_kept k.model c scene.is i lt);
         means =
             subst (λ p. MeansAtLeast (collapsed k c) spans p (number gathered.numbers) (number gathered.numbers i)) (sym row_is)
             (subst (λ n. MeansAtLeast (collapsed k c) spans placed (number gathered.numbers) n) (sym number_is)

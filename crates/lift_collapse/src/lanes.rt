@@ -23,7 +23,7 @@ pub(crate) struct Rows<'a> {
     pub(crate) weights: &'a [i128],
 }
 
-/// The lanes in which vectors are found: a number, a rank and a pick for each state, which rows are allowed, work space,
+/// The lanes in which vectors are found: a number, a rank and a chosen row for each state, which rows are allowed, work space,
 /// and from which vectors guesses begin.
 #[derive(Drop)]
 pub(crate) struct Lanes {

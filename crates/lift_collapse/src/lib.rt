@@ -1,4 +1,5 @@
-//! Collapsed models: what is found on fewer states, and read at the places of all.
+//! Collapsed models (qualitative precomputation, Prob0 and Prob1, and the quotient by what surely leads there): what is
+//! found on fewer states, and read at the places of all.
 #![tactic(auto)]
 
 mod build;

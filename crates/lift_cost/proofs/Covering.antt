@@ -1,4 +1,4 @@
--- Costs over their common denominator, and tolls.
+-- Costs over their common denominator, and rewards.
 use Rattle.std.proofs.Common.{◌≡◌, ℕ, zero, suc, ◌+◌, ◌*◌, ◌/◌, ◌^◌, ◌<◌, ◌≤◌, List, [], ◌∷◌, length, get_or, fold, All, ℤ, pos, ◌*ℤ◌, ◌≤ℤ◌, refl, sym, ap, subst, ◌∙◌, arith, ◌⊎◌, ⊎_elim, mul_comm, mul_assoc, mul-le-mul_left, mul-le-mul_right}
 use Rattle.std.specs.Int.{div_ceil, ◌∣◌}
 use Rattle.std.proofs.Math.Nat.{div-mul_cancel, le_of_mul-le-mul_left, one-dvd}
@@ -55,9 +55,9 @@ gathered n d q t c r charge is le =
     let bound = mul-le-mul_right q le in
     omega (arith, left, right, bound)
 
--- a charge over the common denominator is at most its toll over 2 ^ w, times the cap
-pub toll_covers : LcmIsMultiple → (costs : List CostData) (cap w s : ℕ) → AreCosts costs → 1 ≤ cap → (pos (charge costs s) *ℤ pos (2 ^ w)) ≤ℤ (price_over w costs cap s *ℤ pos (cap * common costs))
-toll_covers multiple costs cap w s are some =
+-- a charge over the common denominator is at most its reward over 2 ^ w, times the cap
+pub reward_covers : LcmIsMultiple → (costs : List CostData) (cap w s : ℕ) → AreCosts costs → 1 ≤ cap → (pos (charge costs s) *ℤ pos (2 ^ w)) ≤ℤ (price_over w costs cap s *ℤ pos (cap * common costs))
+reward_covers multiple costs cap w s are some =
     let c = cost_of costs s in
     let den = den_positive costs s are in
     let below : 0 < c.den * cap = omega (arith, mul-le-mul_left c.den some, den) in

@@ -21,7 +21,7 @@ use Rattle.lift_cost.specs.Certificate.{BudgetData, IsCostCertificate, price_ove
 use Rattle.lift_cost.specs.Paid.{IsPaidAt}
 use Rattle.lift_cost.specs.Laws.{CertificatesBoundCosts, LeastPricedRefutes}
 use Rattle.lift_cost.proofs.Cases.{all_moves, weights-least, total-positive, power-least}
-use Rattle.lift_cost.proofs.Covering.{toll_covers}
+use Rattle.lift_cost.proofs.Covering.{reward_covers}
 
 -- a charge over `scale` is at most its price over `top`, and elsewhere than on goal states z is at least the price and each choice's weighted mean
 record IsCharged (process : Process) (top scale : ℤ) (charge : ℕ → ℕ) (price z : ℕ → ℤ) : Type 0 where
@@ -80,7 +80,7 @@ module _ (tosses : TossesAreBounded) (multiple : LcmIsMultiple) (numbers : Numbe
     total = omega (arith, linear, total-positive weights k spans is within v inside);
     scale_least = omega (arith, linear);
     least = λ s. (numbers k z s priced.numbers).0;
-    covered = λ s. toll_covers multiple costs cap k.w s are some;
+    covered = λ s. reward_covers multiple costs cap k.w s are some;
     weights = weights-least weights k spans is within v inside;
     means = λ s g. all_moves (λ moves. weighted_sum (number z) moves ≤ℤ ((number z s -ℤ price_over k.w costs cap s) *ℤ (process_at k.model v).total)) v (choices k.model s)
         (λ a r at. most k spans (get_or (choices k.model s) a r) z (number z s -ℤ price_over k.w costs cap s) is within (priced.means s g a r at) v inside);

@@ -3,12 +3,12 @@ use Rattle.std.specs.Prelude.{ℕ, ◌*◌, ◌^◌, List, ℤ, pos, ◌*ℤ◌,
 use Rattle.lift_grid.specs.Rectangle.{Spans}
 use Rattle.lift_costs.specs.Costs.{CostData}
 use Rattle.corner_lift.specs.Case.{CaseData, number}
-use Rattle.float_guess.specs.Toll.{toll}
+use Rattle.float_guess.specs.Reward.{reward}
 use Rattle.rounded_iter.specs.Priced.{IsPriced}
 
 -- the cost of a state over the cap, over 2 ^ w, rounded up
 abbrev pub price_over : ℕ → List CostData → ℕ → ℕ → ℤ
-price_over w costs cap s = pos (toll w costs cap s)
+price_over w costs cap s = pos (reward w costs cap s)
 
 -- a budget, as its two parts
 pub record BudgetData : Type 0 where

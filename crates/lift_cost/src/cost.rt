@@ -8,7 +8,7 @@ ghost use Rattle.rounded_iter.specs.Watching.{CanIterate};
 ghost use Rattle.lift_cost.specs.Certificate.{price_over};
 
 use corner_lift::{Case, Lifted};
-use float_guess::Tolls;
+use float_guess::Rewards;
 use lift_costs::Costs;
 use lift_model::Links;
 use rounded_iter::{least_priced, least_priced_within};
@@ -18,7 +18,7 @@ pub(crate) fn least_cost_within(
     case: &Case,
     links: &Links,
     weights: &[i128],
-    tolls: &Tolls,
+    rewards: &Rewards,
     limit: i64,
     lane: &mut [i64],
     work: &mut [u32],
@@ -26,12 +26,12 @@ pub(crate) fn least_cost_within(
     ghost spans: { Spans }
     requires { CanIterate case.now links.now spans weights.now lane.old work.old }
     ensures least { IsTrue result → IsLeastPriced case.now spans
-        (price_over case.now.w tolls.now.costs.now tolls.now.cap) lane.new }
+        (price_over case.now.w rewards.now.costs.now rewards.now.cap) lane.new }
     ensures past { IsFalse result → (z : List ℤ) → IsPriced case.now spans
-        (price_over case.now.w tolls.now.costs.now tolls.now.cap) z → limit <ℤ number z case.now.model.init }
+        (price_over case.now.w rewards.now.costs.now rewards.now.cap) z → limit <ℤ number z case.now.model.init }
 {
     let rows = Lifted::new(&*case, &*links, &*weights);
-    least_priced_within(&rows, tolls, limit, lane, work)
+    least_priced_within(&rows, rewards, limit, lane, work)
 }
 
 /// Leaves in `lane` the least priced vector of the case on the rectangle whose table `weights` is, if there is one: of the
@@ -56,9 +56,9 @@ pub fn least_cost(
     ensures none { IsFalse result → (z : List ℤ) → IsPriced case.now spans (price_over case.now.w costs.now cap) z → ⊥ }
 {
     let rows = Lifted::new(&*case, &*links, &*weights);
-    let tolls = Tolls {
+    let rewards = Rewards {
         costs: &*costs,
         cap,
     };
-    least_priced(&rows, &tolls, lane, work)
+    least_priced(&rows, &rewards, lane, work)
 }

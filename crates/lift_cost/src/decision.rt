@@ -13,7 +13,7 @@ use crate::laws::cost_certificates_decide;
 use crate::question::CostQuestion;
 use crate::room::CostLanes;
 use corner_lift::{fill, one_at, rows_at_corners};
-use float_guess::Tolls;
+use float_guess::Rewards;
 
 /// The product, which can't overflow.
 fn widening_mul(a: u64, b: u64) -> u128
@@ -72,7 +72,7 @@ impl CostQuestion<'_, '_> {
     {
         rows_at_corners();
         fill(self.case, self.links, sides, &mut lanes.weights);
-        let tolls = Tolls {
+        let rewards = Rewards {
             costs: self.costs,
             cap: self.cap,
         };
@@ -80,7 +80,7 @@ impl CostQuestion<'_, '_> {
             self.case,
             self.links,
             &lanes.weights,
-            &tolls,
+            &rewards,
             self.limit(),
             &mut lanes.values,
             &mut lanes.work,

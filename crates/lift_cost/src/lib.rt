@@ -1,5 +1,6 @@
-//! Expected costs before the goal: what cost certificates show of every scheduler, the least priced vector, and the right
-//! tree of a case for a budget, written while it is walked over or built.
+//! Expected costs before the goal (expected reachability rewards): what cost certificates (inductive upper bounds of
+//! them) show of every scheduler, the least priced vector, and the right tree of a case for a budget, written while it
+//! is walked over or built.
 #![tactic(auto)]
 
 mod building;

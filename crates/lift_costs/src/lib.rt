@@ -1,4 +1,4 @@
-//! What a visit of each state of a model costs.
+//! What a visit of each state of a model costs (state rewards).
 #![tactic(auto)]
 
 mod cost;

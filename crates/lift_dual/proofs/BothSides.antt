@@ -47,14 +47,14 @@ record IsCarried (process : Process) (top : ℤ) (x : ℕ → ℤ) (pick : ℕ �
   weights : (s : ℕ) → AreNonNegative (chosen process pick s)
   means : (s : ℕ) → process.goal s ≡ false → weighted_sum x (chosen process pick s) ≤ℤ (x s *ℤ process.total)
 
-module _ (rise : WeightedSumsRise) (process : Process) (top : ℕ) (x y : ℕ → ℤ) (pick : ℕ → ℕ) (rank : ℕ → ℕ) (rate : ℤ) (k : ℕ) (upper : IsCarried process (pos top) x pick) (lower : IsSupportedByAll process (pos top) y rank rate k) (picked : (s : ℕ) → process.goal s ≡ false → rank s ≤ k → pick s < length (process.choices s)) (positive : pos 0 <ℤ process.total) where
+module _ (rise : WeightedSumsRise) (process : Process) (top : ℕ) (x y : ℕ → ℤ) (pick : ℕ → ℕ) (rank : ℕ → ℕ) (rate : ℤ) (k : ℕ) (upper : IsCarried process (pos top) x pick) (lower : IsSupportedByAll process (pos top) y rank rate k) (choice_made : (s : ℕ) → process.goal s ≡ false → rank s ≤ k → pick s < length (process.choices s)) (positive : pos 0 <ℤ process.total) where
   -- where y is at most x and more, and by one less on lower ranks, it is so by one less at the state itself
   held_sinks : (gap : ℕ) (s : ℕ) → process.goal s ≡ false → rank s ≤ k → ((t : ℕ) → (y t +ℤ ranked_under rank (rank s) t) ≤ℤ (x t +ℤ pos gap)) → y s <ℤ (x s +ℤ pos gap)
   held_sinks gap s g le fits =
       let n = process.total in
       let low = ranked_under rank (rank s) in
       let moves = chosen process pick s in
-      let has = of_choice (Supports process.total y rank rate s) (process.choices s) (pick s) (picked s g le) (lower.supports s g le) in
+      let has = of_choice (Supports process.total y rank rate s) (process.choices s) (pick s) (choice_made s g le) (lower.supports s g le) in
       let above = rise (λ t. y t +ℤ low t) (λ t. x t +ℤ pos gap) moves fits (upper.weights s) in
       let sinking = positive_part (weighted_sum low moves) n rate (omega (arith, linear, lower.rate_least)) positive has.lead in
       let all = mul-le (pos gap) (weighted_sum (λ t. pos 1) moves) n (omega (arith, linear)) has.sum in
@@ -98,10 +98,10 @@ lower_all_is_below_upper_one rise numbers weights sums most means reaching k spa
       weights = chosen-weights k spans is within v inside rise numbers weights most x picks upper (mark picks) (λ s lt. refl);
       means = chosen-mean k spans is within v inside rise numbers weights most x picks upper (mark picks) (λ s lt. refl);
     } in
-    lies_below rise process (2 ^ k.w) (number x) (number r.numbers) (mark picks) (mark r.ranks) (pos (2 ^ r.e)) r.k carried (supported k others is within_others v inside_others numbers weights sums means reaching r lower) (λ s g le. picked s g le) positive
+    lies_below rise process (2 ^ k.w) (number x) (number r.numbers) (mark picks) (mark r.ranks) (pos (2 ^ r.e)) r.k carried (supported k others is within_others v inside_others numbers weights sums means reaching r lower) (λ s g le. choice_made s g le) positive
   where
-    picked : (s : ℕ) → is_goal k.model s ≡ false → mark r.ranks s ≤ r.k → mark picks s < length (map (moves_at v) (choices k.model s))
-    picked s g le = ⊎_elim
+    choice_made : (s : ℕ) → is_goal k.model s ≡ false → mark r.ranks s ≤ r.k → mark picks s < length (map (moves_at v) (choices k.model s))
+    choice_made s g le = ⊎_elim
         (λ (lt : s < length k.model.states). omega (arith, upper.pick s lt g, map-length (moves_at v) (choices k.model s)))
         (λ (past : length k.model.states ≤ s). absurd (omega (arith, le, lower.bounds.2, get_or_past r.ranks s unmarked (omega (arith, lower.sizes.1, past)))))
         (in_or_past s (length k.model.states))

@@ -16,15 +16,15 @@ use Rattle.float_guess.specs.Rule.{is_given, given}
 use Rattle.rounded_iter.specs.Rising.{IsEnoughEverywhere, IsLeastBound}
 use Rattle.lift_dual.specs.Sides.{IsUpperOne}
 use Rattle.lift_dual.specs.Avoiding.{IsAvoiding, IsLeastAvoiding}
-use Rattle.lift_dual.specs.Picking.{IsMet, HasMet, AreLowestPicks, IsLeastUpperOne}
-use Rattle.lift_dual.specs.Bounds.{for_one, for_all, BoundsAreAvoiding, LeastBoundIsAvoiding, UpperOneIsBound, BoundIsMet, LeastBoundIsUpperOne}
+use Rattle.lift_dual.specs.Choosing.{IsSatisfied, HasSatisfied, AreLowestChoices, IsLeastUpperOne}
+use Rattle.lift_dual.specs.Bounds.{for_one, for_all, BoundsAreAvoiding, LeastBoundIsAvoiding, UpperOneIsBound, BoundIsSatisfied, LeastBoundIsUpperOne}
 use Rattle.lift_dual.proofs.Inside.{in_or_past, choice_inside, goal_inside, either_way}
 
 -- a choice is met where it is at each of its corners
-pub met_is : ParametersAreTheRoots → (k : CaseData) (spans : Spans) (x : List ℤ) (s a : ℕ) → IsInside k.root spans
-    → (((c : ℕ) → c < corner_count k s a → row_value k spans s a x c ≤ℤ (number x s *ℤ row_whole k s a)) → IsMet k spans x s a)
-    × (IsMet k spans x s a → (c : ℕ) → c < corner_count k s a → row_value k spans s a x c ≤ℤ (number x s *ℤ row_whole k s a))
-met_is parameters k spans x s a within =
+pub satisfied_is : ParametersAreTheRoots → (k : CaseData) (spans : Spans) (x : List ℤ) (s a : ℕ) → IsInside k.root spans
+    → (((c : ℕ) → c < corner_count k s a → row_value k spans s a x c ≤ℤ (number x s *ℤ row_whole k s a)) → IsSatisfied k spans x s a)
+    × (IsSatisfied k spans x s a → (c : ℕ) → c < corner_count k s a → row_value k spans s a x c ≤ℤ (number x s *ℤ row_whole k s a))
+satisfied_is parameters k spans x s a within =
     let row = row_at k.model s a in
     let same = parameters k spans row within.within in
     let wholes : whole k.model k.d spans row ≡ row_whole k s a = ap (λ m. k.model.common *ℤ power k.d m) same in (
@@ -54,7 +54,7 @@ module _ (parameters : ParametersAreTheRoots) (k : CaseData) (spans : Spans) (is
       numbers = h.numbers;
       goal = λ s g. subst (λ v. number z s ≡ v) (let e : given k (Unranked ranks) s ≡ pos 0 = rw g refl in e) (h.given s (goal_given s g));
       lost = λ s lt g off. subst (λ v. number z s ≡ v) (let e : given k (Unranked ranks) s ≡ pos (2 ^ k.w) = rw g refl in e) (h.given s (lost_given s lt g off));
-      means = λ s g ranked. All-from_get_or (λ row. MeansAtMost k spans row z (number z s)) (choices k.model s) [] (λ a lt. (met_is parameters k spans z s a within).0 (h.enough s (choice_inside k s a lt) (not_given s g ranked) a lt));
+      means = λ s g ranked. All-from_get_or (λ row. MeansAtMost k spans row z (number z s)) (choices k.model s) [] (λ a lt. (satisfied_is parameters k spans z s a within).0 (h.enough s (choice_inside k s a lt) (not_given s g ranked) a lt));
     }
 
     bound_of : (z : List ℤ) → IsAvoiding k spans (mark ranks.now) z → IsEnoughEverywhere (for_all ranks) k spans z
@@ -63,7 +63,7 @@ module _ (parameters : ParametersAreTheRoots) (k : CaseData) (spans : Spans) (is
       given = λ s e. either_way (is_goal k.model s)
           (λ g. rw g (h.goal s g))
           (λ g. rw g (h.lost s (inside s g e) g (off s g e)));
-      enough = λ s lt e a choice. (met_is parameters k spans z s a within).1 (h.means s (no_goal s e) (ranked s lt e) a [] choice);
+      enough = λ s lt e a choice. (satisfied_is parameters k spans z s a within).1 (h.means s (no_goal s e) (ranked s lt e) a [] choice);
     }
       where
         inside : (s : ℕ) → is_goal k.model s ≡ false → is_given k.model (Unranked ranks) s ≡ true → s < length k.model.states
@@ -84,23 +84,23 @@ module _ (parameters : ParametersAreTheRoots) (k : CaseData) (spans : Spans) (is
   bound_of_one x picks h = record {
     numbers = h.numbers;
     given = λ s g. (h.goal s g).0;
-    enough = λ s lt g. (mark picks s, (h.pick s lt g, (met_is parameters k spans x s (mark picks s) within).1 (h.means s lt g)));
+    enough = λ s lt g. (mark picks s, (h.pick s lt g, (satisfied_is parameters k spans x s (mark picks s) within).1 (h.means s lt g)));
   }
 
-  met_of : (x : List ℤ) → IsEnoughEverywhere for_one k spans x → (s : ℕ) → s < length k.model.states → is_goal k.model s ≡ false → HasMet k spans x s
-  met_of x h s lt g = let one = h.enough s lt g in (one.0, (one.1.0, (met_is parameters k spans x s one.0 within).0 one.1.1))
+  satisfied_of : (x : List ℤ) → IsEnoughEverywhere for_one k spans x → (s : ℕ) → s < length k.model.states → is_goal k.model s ≡ false → HasSatisfied k spans x s
+  satisfied_of x h s lt g = let one = h.enough s lt g in (one.0, (one.1.0, (satisfied_is parameters k spans x s one.0 within).0 one.1.1))
 
-  least_one_of : (x : List ℤ) (picks : List ℕ) → IsLeastBound for_one k spans x → AreLowestPicks k spans x picks → IsLeastUpperOne k spans x picks
-  least_one_of x picks h picked = record {
+  least_one_of : (x : List ℤ) (picks : List ℕ) → IsLeastBound for_one k spans x → AreLowestChoices k spans x picks → IsLeastUpperOne k spans x picks
+  least_one_of x picks h chosen = record {
     upper = record {
       numbers = h.bound.numbers;
-      size = picked.size;
-      goal = λ s g. (h.bound.given s g, (picked.each s (goal_inside k s is g)).none g);
-      pick = λ s lt g. ((picked.each s lt).picked g).in_range;
-      means = λ s lt g. ((picked.each s lt).picked g).holds;
+      size = chosen.size;
+      goal = λ s g. (h.bound.given s g, (chosen.each s (goal_inside k s is g)).none g);
+      pick = λ s lt g. ((chosen.each s lt).chosen g).in_range;
+      means = λ s lt g. ((chosen.each s lt).chosen g).holds;
     };
     least = λ y others upper. h.least y (bound_of_one y others upper);
-    lowest = picked;
+    lowest = chosen;
   }
 
 pub bounds_are_avoiding : ParametersAreTheRoots → BoundsAreAvoiding
@@ -115,8 +115,8 @@ least_bound_is_avoiding parameters k spans ranks z is within h = record {
 pub upper_one_is_bound : ParametersAreTheRoots → UpperOneIsBound
 upper_one_is_bound parameters k spans x picks is within h = bound_of_one parameters k spans is within x picks h
 
-pub bound_is_met : ParametersAreTheRoots → BoundIsMet
-bound_is_met parameters k spans x is within h = met_of parameters k spans is within x h
+pub bound_is_satisfied : ParametersAreTheRoots → BoundIsSatisfied
+bound_is_satisfied parameters k spans x is within h = satisfied_of parameters k spans is within x h
 
 pub least_bound_is_upper_one : ParametersAreTheRoots → LeastBoundIsUpperOne
-least_bound_is_upper_one parameters k spans x picks is within h picked = least_one_of parameters k spans is within x picks h picked
+least_bound_is_upper_one parameters k spans x picks is within h chosen = least_one_of parameters k spans is within x picks h chosen

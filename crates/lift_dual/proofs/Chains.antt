@@ -15,9 +15,9 @@ use Rattle.corner_lift.specs.Certificate.{AreNumbers, MeansAtMost, MeansAtLeast,
 use Rattle.corner_lift.specs.Stages.{IsAllowed, LeadsBelow, IsGreatestLower}
 use Rattle.corner_lift.specs.Laws.{ParametersAreTheRoots, SumsAreInRange}
 use Rattle.lift_dual.specs.Sides.{RowHolds, IsLowerAll, IsUpperOne}
-use Rattle.lift_dual.specs.Picking.{IsLowestMet, IsLeastUpperOne}
+use Rattle.lift_dual.specs.Choosing.{IsLowestSatisfied, IsLeastUpperOne}
 use Rattle.lift_dual.specs.Avoiding.{AreStagesOfAll, IsRateOf, HasLeast, IsGreatestLowerAll}
-use Rattle.lift_dual.specs.Chains.{AreFirstPicks, LeastWithinIsForOne, GreatestAboveIsForAll, NoneAboveIsForAll}
+use Rattle.lift_dual.specs.Chains.{AreFirstChoices, LeastWithinIsForOne, GreatestAboveIsForAll, NoneAboveIsForAll}
 use Rattle.lift_dual.proofs.Joining.{listed, listed-length, listed-at, listed-past}
 use Rattle.lift_dual.proofs.Inside.{in_or_past, choice_inside, goal_inside, either_way}
 
@@ -90,15 +90,15 @@ module _ (k : CaseData) (spans : Spans) (is : IsCase k) (chain : k.model.kind �
     means = λ s g. rows_of (λ row. MeansAtMost k spans row x (number x s)) s (λ lt. subst (λ a. MeansAtMost k spans (row_at k.model s a) x (number x s)) (first s (mark picks s) lt (h.pick s lt g)) (h.means s lt g));
   }
 
-  module _ (x : List ℤ) (picks : List ℕ) (h : IsLeastUpper k spans x) (p : AreFirstPicks k.model picks) where
+  module _ (x : List ℤ) (picks : List ℕ) (h : IsLeastUpper k spans x) (p : AreFirstChoices k.model picks) where
     none : (s : ℕ) → is_goal k.model s ≡ true → mark picks s ≡ unmarked
     none s g = p.each s (goal_inside k s is g) ∙ rw g refl
 
     at_first : (s : ℕ) → s < n → is_goal k.model s ≡ false → mark picks s ≡ 0
     at_first s lt g = p.each s lt ∙ rw g refl
 
-    met : (s : ℕ) → s < n → is_goal k.model s ≡ false → IsLowestMet k spans x s (mark picks s)
-    met s lt g = subst (λ a. IsLowestMet k spans x s a) (sym (at_first s lt g)) (record { in_range = has s lt; holds = h.upper.means s g 0 [] (has s lt); least = λ b less. absurd (omega (arith, less)) })
+    satisfied : (s : ℕ) → s < n → is_goal k.model s ≡ false → IsLowestSatisfied k spans x s (mark picks s)
+    satisfied s lt g = subst (λ a. IsLowestSatisfied k spans x s a) (sym (at_first s lt g)) (record { in_range = has s lt; holds = h.upper.means s g 0 [] (has s lt); least = λ b less. absurd (omega (arith, less)) })
 
     least_one_of : IsLeastUpperOne k spans x picks
     least_one_of = record {
@@ -106,11 +106,11 @@ module _ (k : CaseData) (spans : Spans) (is : IsCase k) (chain : k.model.kind �
         numbers = h.upper.numbers;
         size = p.size;
         goal = λ s g. (h.upper.goal s g, none s g);
-        pick = λ s lt g. (met s lt g).in_range;
-        means = λ s lt g. (met s lt g).holds;
+        pick = λ s lt g. (satisfied s lt g).in_range;
+        means = λ s lt g. (satisfied s lt g).holds;
       };
       least = λ y others upper. h.least y (upper_of y others upper);
-      lowest = record { size = p.size; each = λ s lt. record { picked = λ g. met s lt g; none = λ g. none s g } };
+      lowest = record { size = p.size; each = λ s lt. record { chosen = λ g. satisfied s lt g; none = λ g. none s g } };
     }
 
   -- ---- from below
@@ -119,12 +119,12 @@ module _ (k : CaseData) (spans : Spans) (is : IsCase k) (chain : k.model.kind �
     pick : ℕ → ℕ
     pick s = cond (is_goal k.model s) unmarked (cond (nat_lt (mark o.ranks s) unmarked) 0 unmarked)
 
-    picks_of : List ℕ
-    picks_of = listed n pick
+    choices_of : List ℕ
+    choices_of = listed n pick
 
     -- a state past the last one has none
-    none_of : (s : ℕ) → (s < n → pick s ≡ unmarked) → mark picks_of s ≡ unmarked
-    unfolding picks_of
+    none_of : (s : ℕ) → (s < n → pick s ≡ unmarked) → mark choices_of s ≡ unmarked
+    unfolding choices_of
     none_of s h = ⊎_elim
         (λ (lt : s < n). listed-at n pick s unmarked lt ∙ h lt)
         (λ (past : n ≤ s). listed-past n pick s unmarked past)
@@ -138,25 +138,25 @@ module _ (k : CaseData) (spans : Spans) (is : IsCase k) (chain : k.model.kind �
     unfolding pick
     unranked_none s g off = let test = le-ltb (mark o.ranks s) unmarked off in rw (g, test) refl
 
-    picked : (s : ℕ) → s < n → is_goal k.model s ≡ false → mark o.ranks s < unmarked → mark picks_of s ≡ 0
-    unfolding picks_of pick
-    picked s lt g ranked = let test = lt-ltb (mark o.ranks s) unmarked ranked in listed-at n pick s unmarked lt ∙ (rw (g, test) refl)
+    chosen : (s : ℕ) → s < n → is_goal k.model s ≡ false → mark o.ranks s < unmarked → mark choices_of s ≡ 0
+    unfolding choices_of pick
+    chosen s lt g ranked = let test = lt-ltb (mark o.ranks s) unmarked ranked in listed-at n pick s unmarked lt ∙ (rw (g, test) refl)
 
-    picks_size : length picks_of ≡ n
-    unfolding picks_of
-    picks_size = listed-length n pick
+    choices_size : length choices_of ≡ n
+    unfolding choices_of
+    choices_size = listed-length n pick
 
-    lower_of : IsLower k spans (record o { picks = picks_of })
+    lower_of : IsLower k spans (record o { picks = choices_of })
     lower_of = record {
       numbers = ho.numbers;
-      sizes = (picks_size, ho.sizes.1);
+      sizes = (choices_size, ho.sizes.1);
       marks = ho.marks;
       bounds = ho.bounds;
       goal = λ s g. ((ho.goal s g).0, (ho.goal s g).1, none_of s (λ lt. goal_none s g));
       unranked = λ s g off. (ho.unranked s g off, none_of s (λ lt. unranked_none s g off));
       held = λ s g ranked.
           let lt = ranked_inside o.ranks s ho.sizes.1 ranked in
-          let at = picked s lt g ranked in
+          let at = chosen s lt g ranked in
           let all = ho.held s g ranked in
           let row : Holds o s 0 = all.rows 0 [] (has s lt) in
           record {
@@ -210,7 +210,7 @@ module _ (k : CaseData) (spans : Spans) (is : IsCase k) (chain : k.model.kind �
     stages_of_all = record {
       goal = h.stages.goal;
       reached = λ s g ranked.
-          let by = h.stages.picked s g ranked in
+          let by = h.stages.chosen s g ranked in
           let lt = inside s ranked in
           (by.later, λ a choice. subst (λ b. LeadsBelow k spans (mark r.ranks) (mark r.ranks s) s b) (at_zero s g ranked ∙ sym (first s a lt choice)) by.leads);
       first = λ s lt g rank less all. h.stages.first s g 0 rank (has s lt) (allowed s lt g) less (all 0 (has s lt));
@@ -227,7 +227,7 @@ module _ (k : CaseData) (spans : Spans) (is : IsCase k) (chain : k.model.kind �
     greatest_of : IsGreatestLowerAll k spans (record r { picks = [] })
     greatest_of = record {
       holds = lower_all;
-      greatest = λ o ho. h.greatest (record o { picks = picks_of o ho }) (lower_of o ho);
+      greatest = λ o ho. h.greatest (record o { picks = choices_of o ho }) (lower_of o ho);
       stages = stages_of_all;
       has_least = has_least;
     }
@@ -243,7 +243,7 @@ least_is_for_one parameters range k spans limit x picks within is inside chain h
 }
 
 pub none_is_for_all : NoneAboveIsForAll
-none_is_for_all k spans limit is chain none r h = none (record r { picks = picks_of k spans is chain r h }) (lower_of k spans is chain r h)
+none_is_for_all k spans limit is chain none r h = none (record r { picks = choices_of k spans is chain r h }) (lower_of k spans is chain r h)
 
 pub greatest_is_for_all : SumsAreInRange → GreatestAboveIsForAll
 greatest_is_for_all range k spans limit r is within chain h = record {

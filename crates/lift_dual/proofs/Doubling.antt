@@ -17,7 +17,7 @@ use Rattle.robust_rank.specs.Rate.{IsRowRate, IsFirstFrom}
 use Rattle.lower_cert.specs.Lowering.{IsHeight}
 use Rattle.lift_dual.specs.Avoiding.{IsRateOf, HasLeast}
 use Rattle.lift_dual.specs.Rates.{IsRateOfChoices, IsRateOfState, IsRateOfStates}
-use Rattle.lift_dual.proofs.Picking.{one_more}
+use Rattle.lift_dual.proofs.Choosing.{one_more}
 use Rattle.lift_dual.proofs.Inside.{in_or_past}
 use Rattle.lift_dual.proofs.Sums.{positive_part, product-positive}
 

@@ -293,14 +293,14 @@ module _ (numbers : NumbersAreInRange) (rise : SumsRise) (k : CaseData) (spans :
     unfolding join
     ranks_size = listed-length n (λ s. least (mark a.ranks s) (mark b.ranks s))
 
-    picks_none : join.picks ≡ []
+    choices_none : join.picks ≡ []
     unfolding join
-    picks_none = refl
+    choices_none = refl
 
     is_join : IsLowerAll k spans join
     is_join = record {
       numbers = join_numbers;
-      sizes = (picks_none, ranks_size);
+      sizes = (choices_none, ranks_size);
       marks = λ i d lt. subst (λ z. z ≤ unmarked) (sym (get_or_default join.ranks i d unmarked lt)) (omega (arith, earlier_a i, mark_most a ha i));
       bounds = (⊎_elim (λ (e : join.e ≡ a.e). omega (arith, e, ha.bounds.0)) (λ (e : join.e ≡ b.e). omega (arith, e, hb.bounds.0)) rate_is.one, omega (arith, ha.bounds.1, height_is.left), ⊎_elim (λ (e : join.k ≡ a.k). omega (arith, e, ha.bounds.2)) (λ (e : join.k ≡ b.k). omega (arith, e, hb.bounds.2)) height_is.one);
       goal = λ s g. (⊎_elim (λ (z : number join.numbers s ≡ number a.numbers s). z ∙ (ha.goal s g).0) (λ (z : number join.numbers s ≡ number b.numbers s). z ∙ (hb.goal s g).0) (number_is s).one, omega (arith, earlier_a s, (ha.goal s g).1));
@@ -320,13 +320,13 @@ module _ (numbers : NumbersAreInRange) (rise : SumsRise) (k : CaseData) (spans :
     meet : List ℤ
     meet = listed n (λ s. by_lesser (number x s) (number y s) (number x s) (number y s))
 
-    meet_picks : List ℕ
-    meet_picks = listed n (λ s. by_lesser (number x s) (number y s) (mark a s) (mark b s))
+    meet_choices : List ℕ
+    meet_choices = listed n (λ s. by_lesser (number x s) (number y s) (mark a s) (mark b s))
 
-    meet_is : (s : ℕ) → IsLesser (number x s) (number y s) (number meet s) (mark a s) (mark b s) (mark meet_picks s)
-    unfolding meet meet_picks
+    meet_is : (s : ℕ) → IsLesser (number x s) (number y s) (number meet s) (mark a s) (mark b s) (mark meet_choices s)
+    unfolding meet meet_choices
     meet_is s = ⊎_elim
-        (λ (lt : s < n). subst (λ z. IsLesser (number x s) (number y s) z (mark a s) (mark b s) (mark meet_picks s)) (sym (listed-at n (λ s. by_lesser (number x s) (number y s) (number x s) (number y s)) s (pos 0) lt))
+        (λ (lt : s < n). subst (λ z. IsLesser (number x s) (number y s) z (mark a s) (mark b s) (mark meet_choices s)) (sym (listed-at n (λ s. by_lesser (number x s) (number y s) (number x s) (number y s)) s (pos 0) lt))
         (subst (λ c. IsLesser (number x s) (number y s) (by_lesser (number x s) (number y s) (number x s) (number y s)) (mark a s) (mark b s) c) (sym (listed-at n (λ s. by_lesser (number x s) (number y s) (mark a s) (mark b s)) s unmarked lt)) (lesser_is (number x s) (number y s) (mark a s) (mark b s))))
         (λ (past : n ≤ s).
         let zero_z = listed-past n (λ s. by_lesser (number x s) (number y s) (number x s) (number y s)) s (pos 0) past in
@@ -341,14 +341,14 @@ module _ (numbers : NumbersAreInRange) (rise : SumsRise) (k : CaseData) (spans :
     meet_range s =
         let in_x = numbers k x s hx.numbers in
         let in_y = numbers k y s hy.numbers in
-        (⊎_elim (λ (z : (number meet s ≡ number x s) × (mark meet_picks s ≡ mark a s)). omega (arith, linear, z.0, in_x.0)) (λ (z : (number meet s ≡ number y s) × (mark meet_picks s ≡ mark b s)). omega (arith, linear, z.0, in_y.0)) (meet_is s).one, omega (arith, linear, in_x.1, (meet_is s).left))
+        (⊎_elim (λ (z : (number meet s ≡ number x s) × (mark meet_choices s ≡ mark a s)). omega (arith, linear, z.0, in_x.0)) (λ (z : (number meet s ≡ number y s) × (mark meet_choices s ≡ mark b s)). omega (arith, linear, z.0, in_y.0)) (meet_is s).one, omega (arith, linear, in_x.1, (meet_is s).left))
 
     -- what one of the two has at a state
-    module _ (o : List ℤ) (c : List ℕ) (ho : IsUpperOne k spans o c) (under : (t : ℕ) → number meet t ≤ℤ number o t) (s : ℕ) (same : number meet s ≡ number o s) (pick : mark meet_picks s ≡ mark c s) where
-      pick_in : s < n → is_goal k.model s ≡ false → mark meet_picks s < length (choices k.model s)
-      pick_in lt g = omega (arith, pick, ho.pick s lt g)
+    module _ (o : List ℤ) (c : List ℕ) (ho : IsUpperOne k spans o c) (under : (t : ℕ) → number meet t ≤ℤ number o t) (s : ℕ) (same : number meet s ≡ number o s) (pick : mark meet_choices s ≡ mark c s) where
+      choice_in : s < n → is_goal k.model s ≡ false → mark meet_choices s < length (choices k.model s)
+      choice_in lt g = omega (arith, pick, ho.pick s lt g)
 
-      means_at : s < n → is_goal k.model s ≡ false → MeansAtMost k spans (row_at k.model s (mark meet_picks s)) meet (number meet s)
+      means_at : s < n → is_goal k.model s ≡ false → MeansAtMost k spans (row_at k.model s (mark meet_choices s)) meet (number meet s)
       means_at lt g = subst (λ p. MeansAtMost k spans (row_at k.model s p) meet (number meet s)) (sym pick)
           (λ i at. omega (arith, linear, ho.means s lt g i at, rise k spans s (mark c s) i (number meet) (number o) is within (has_row k s (mark c s) (ho.pick s lt g)) under, ap (λ z. z *ℤ whole k.model k.d spans (row_at k.model s (mark c s))) same))
 
@@ -358,29 +358,29 @@ module _ (numbers : NumbersAreInRange) (rise : SumsRise) (k : CaseData) (spans :
     under_y : (t : ℕ) → number meet t ≤ℤ number y t
     under_y t = (meet_is t).right
 
-    picks_size : length meet_picks ≡ n
-    unfolding meet_picks
-    picks_size = listed-length n (λ s. by_lesser (number x s) (number y s) (mark a s) (mark b s))
+    choices_size : length meet_choices ≡ n
+    unfolding meet_choices
+    choices_size = listed-length n (λ s. by_lesser (number x s) (number y s) (mark a s) (mark b s))
 
     meet_size : length meet ≡ n
     unfolding meet
     meet_size = listed-length n (λ s. by_lesser (number x s) (number y s) (number x s) (number y s))
 
-    is_meet : IsUpperOne k spans meet meet_picks
+    is_meet : IsUpperOne k spans meet meet_choices
     is_meet = record {
       numbers = record { size = meet_size; range = λ i d lt. subst (λ z. (pos 0 ≤ℤ z) × (z ≤ℤ pos (2 ^ k.w))) (sym (get_or_default meet i d (pos 0) lt)) (meet_range i) };
-      size = picks_size;
+      size = choices_size;
       goal = λ s g. ⊎_elim
-          (λ (z : (number meet s ≡ number x s) × (mark meet_picks s ≡ mark a s)). (z.0 ∙ (hx.goal s g).0, z.1 ∙ (hx.goal s g).1))
-          (λ (z : (number meet s ≡ number y s) × (mark meet_picks s ≡ mark b s)). (z.0 ∙ (hy.goal s g).0, z.1 ∙ (hy.goal s g).1))
+          (λ (z : (number meet s ≡ number x s) × (mark meet_choices s ≡ mark a s)). (z.0 ∙ (hx.goal s g).0, z.1 ∙ (hx.goal s g).1))
+          (λ (z : (number meet s ≡ number y s) × (mark meet_choices s ≡ mark b s)). (z.0 ∙ (hy.goal s g).0, z.1 ∙ (hy.goal s g).1))
           (meet_is s).one;
       pick = λ s lt g. ⊎_elim
-          (λ (z : (number meet s ≡ number x s) × (mark meet_picks s ≡ mark a s)). pick_in x a hx under_x s z.0 z.1 lt g)
-          (λ (z : (number meet s ≡ number y s) × (mark meet_picks s ≡ mark b s)). pick_in y b hy under_y s z.0 z.1 lt g)
+          (λ (z : (number meet s ≡ number x s) × (mark meet_choices s ≡ mark a s)). choice_in x a hx under_x s z.0 z.1 lt g)
+          (λ (z : (number meet s ≡ number y s) × (mark meet_choices s ≡ mark b s)). choice_in y b hy under_y s z.0 z.1 lt g)
           (meet_is s).one;
       means = λ s lt g. ⊎_elim
-          (λ (z : (number meet s ≡ number x s) × (mark meet_picks s ≡ mark a s)). means_at x a hx under_x s z.0 z.1 lt g)
-          (λ (z : (number meet s ≡ number y s) × (mark meet_picks s ≡ mark b s)). means_at y b hy under_y s z.0 z.1 lt g)
+          (λ (z : (number meet s ≡ number x s) × (mark meet_choices s ≡ mark a s)). means_at x a hx under_x s z.0 z.1 lt g)
+          (λ (z : (number meet s ≡ number y s) × (mark meet_choices s ≡ mark b s)). means_at y b hy under_y s z.0 z.1 lt g)
           (meet_is s).one;
     }
 
@@ -388,4 +388,4 @@ pub lower_alls_join : NumbersAreInRange → SumsRise → LowerAllsJoin
 lower_alls_join numbers rise k spans a b is within ha hb = (join numbers rise k spans is within a b ha hb, (is_join numbers rise k spans is within a b ha hb, over_a numbers rise k spans is within a b ha hb, over_b numbers rise k spans is within a b ha hb))
 
 pub upper_ones_meet : NumbersAreInRange → SumsRise → UpperOnesMeet
-upper_ones_meet numbers rise k spans x y a b is within hx hy = (meet numbers rise k spans is within x y a b hx hy, (meet_picks numbers rise k spans is within x y a b hx hy, (is_meet numbers rise k spans is within x y a b hx hy, under_x numbers rise k spans is within x y a b hx hy, under_y numbers rise k spans is within x y a b hx hy)))
+upper_ones_meet numbers rise k spans x y a b is within hx hy = (meet numbers rise k spans is within x y a b hx hy, (meet_choices numbers rise k spans is within x y a b hx hy, (is_meet numbers rise k spans is within x y a b hx hy, under_x numbers rise k spans is within x y a b hx hy, under_y numbers rise k spans is within x y a b hx hy)))

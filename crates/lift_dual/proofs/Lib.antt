@@ -9,7 +9,7 @@ mod StagesOfAll
 mod Untils
 mod Apart
 mod Samples
-mod Picking
+mod Choosing
 mod Bounds
 mod Ranking
 mod Doubling

@@ -123,7 +123,7 @@ twin_is_upper = record {
   };
   size = refl;
   goal = goal_at;
-  pick = pick_at;
+  pick = choice_at;
   means = means_at;
 }
   where
@@ -133,11 +133,11 @@ twin_is_upper = record {
     goal_at (suc (suc zero)) e = cc
     goal_at (suc (suc (suc s))) e = cc
 
-    pick_at : (s : ℕ) → s < 3 → is_goal twin.model s ≡ false → mark picks s < length (choices twin.model s)
-    pick_at zero lt e = omega arith
-    pick_at (suc zero) lt e = cc
-    pick_at (suc (suc zero)) lt e = omega arith
-    pick_at (suc (suc (suc s))) lt e = absurd (omega arith)
+    choice_at : (s : ℕ) → s < 3 → is_goal twin.model s ≡ false → mark picks s < length (choices twin.model s)
+    choice_at zero lt e = omega arith
+    choice_at (suc zero) lt e = cc
+    choice_at (suc (suc zero)) lt e = omega arith
+    choice_at (suc (suc (suc s))) lt e = absurd (omega arith)
 
     means_at : (s : ℕ) → s < 3 → is_goal twin.model s ≡ false → MeansAtMost twin sides (row_at twin.model s (mark picks s)) upper (number upper s)
     means_at zero lt e zero at = record { le = tt }

@@ -11,7 +11,7 @@ use Rattle.float_guess.specs.declared.rule.Rule.{Rule}
 use Rattle.rounded_iter.specs.Rising.{IsEnoughEverywhere, IsLeastBound}
 use Rattle.lift_dual.specs.Sides.{IsUpperOne}
 use Rattle.lift_dual.specs.Avoiding.{IsAvoiding, IsLeastAvoiding}
-use Rattle.lift_dual.specs.Picking.{HasMet, AreLowestPicks, IsLeastUpperOne}
+use Rattle.lift_dual.specs.Choosing.{HasSatisfied, AreLowestChoices, IsLeastUpperOne}
 
 -- upper vectors for one scheduler: one choice has to be met, at each corner, and goal states have 2 ^ w
 abbrev pub for_one : Rule
@@ -37,11 +37,11 @@ UpperOneIsBound = (k : CaseData) (spans : Spans) (x : List ℤ) (picks : List �
     → IsUpperOne k spans x picks → IsEnoughEverywhere for_one k spans x
 
 -- in such a bound some choice meets each state's number
-abbrev pub BoundIsMet : Type 0
-BoundIsMet = (k : CaseData) (spans : Spans) (x : List ℤ) → IsCase k → IsInside k.root spans → IsEnoughEverywhere for_one k spans x
-    → (s : ℕ) → s < length k.model.states → is_goal k.model s ≡ false → HasMet k spans x s
+abbrev pub BoundIsSatisfied : Type 0
+BoundIsSatisfied = (k : CaseData) (spans : Spans) (x : List ℤ) → IsCase k → IsInside k.root spans → IsEnoughEverywhere for_one k spans x
+    → (s : ℕ) → s < length k.model.states → is_goal k.model s ≡ false → HasSatisfied k spans x s
 
 -- so the least bound, with the lowest choices that meet it, is the least upper vector for one scheduler
 abbrev pub LeastBoundIsUpperOne : Type 0
 LeastBoundIsUpperOne = (k : CaseData) (spans : Spans) (x : List ℤ) (picks : List ℕ) → IsCase k → IsInside k.root spans
-    → IsLeastBound for_one k spans x → AreLowestPicks k spans x picks → IsLeastUpperOne k spans x picks
+    → IsLeastBound for_one k spans x → AreLowestChoices k spans x picks → IsLeastUpperOne k spans x picks

@@ -8,18 +8,18 @@ use Rattle.corner_lift.specs.Case.{CaseData, IsCase, IsInside}
 use Rattle.corner_lift.specs.Certificate.{unmarked, mark}
 use Rattle.rounded_iter.specs.Watching.{IsLeastWithin}
 use Rattle.lower_cert.specs.Limit.{IsGreatestAbove, NoneIsAbove}
-use Rattle.lift_dual.specs.Picking.{IsLeastUpperOneWithin}
+use Rattle.lift_dual.specs.Choosing.{IsLeastUpperOneWithin}
 use Rattle.lift_dual.specs.Greatest.{IsGreatestAllAbove, NoneOfAllIsAbove}
 
 -- the first choice of each state that is no goal state, and none of a goal state
-pub record AreFirstPicks (m : ModelData) (picks : List ℕ) : Type 0 where
+pub record AreFirstChoices (m : ModelData) (picks : List ℕ) : Type 0 where
   pub size : length picks ≡ length m.states
   pub each : (s : ℕ) → s < length m.states → mark picks s ≡ (if is_goal m s then unmarked else 0)
 
 -- the least upper vector within a limit is the least one for one scheduler, with the first choices
 abbrev pub LeastWithinIsForOne : Type 0
 LeastWithinIsForOne = (k : CaseData) (spans : Spans) (limit : ℤ) (x : List ℤ) (picks : List ℕ) (within : Bool) → IsCase k → IsInside k.root spans → k.model.kind ≡ Dtmc
-    → IsLeastWithin k spans limit x within → (within ≡ true → AreFirstPicks k.model picks) → IsLeastUpperOneWithin k spans limit x picks within
+    → IsLeastWithin k spans limit x within → (within ≡ true → AreFirstChoices k.model picks) → IsLeastUpperOneWithin k spans limit x picks within
 
 -- the greatest lower vector above a limit is the greatest one for every scheduler, which picks none
 abbrev pub GreatestAboveIsForAll : Type 0

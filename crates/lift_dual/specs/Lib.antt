@@ -5,7 +5,7 @@ pub mod StagesOfAll
 pub mod Said
 pub mod Property
 pub mod Laws
-pub mod Picking
+pub mod Choosing
 pub mod Bounds
 pub mod Ranking
 pub mod Rates

@@ -7,7 +7,7 @@ ghost use Rattle.lift_dual.specs.Avoiding.{StagesAreLeast, RestIsAvoiding, RestI
 ghost use Rattle.lift_dual.specs.AnyRanksOfAll.{RanksOfAllFit, NoneOfAllWithAnyRanks};
 ghost use Rattle.lift_dual.specs.StagesOfAll.{StartOfAll, NextOfAll, EndOfAll};
 ghost use Rattle.lift_dual.specs.Bounds.{BoundsAreAvoiding, LeastBoundIsAvoiding};
-ghost use Rattle.lift_dual.specs.Bounds.{UpperOneIsBound, BoundIsMet, LeastBoundIsUpperOne};
+ghost use Rattle.lift_dual.specs.Bounds.{UpperOneIsBound, BoundIsSatisfied, LeastBoundIsUpperOne};
 ghost use Rattle.lift_dual.specs.Chains.{LeastWithinIsForOne, GreatestAboveIsForAll, NoneAboveIsForAll};
 
 use corner_lift::{corners_bound_weights, rows_at_corners, rows_inside};
@@ -105,7 +105,7 @@ pub fn bounds_are_vectors()
     ensures avoiding { BoundsAreAvoiding }
     ensures least_avoiding { LeastBoundIsAvoiding }
     ensures one { UpperOneIsBound }
-    ensures met { BoundIsMet }
+    ensures satisfied { BoundIsSatisfied }
     ensures least_one { LeastBoundIsUpperOne }
 {
     rows_at_corners();

@@ -1,5 +1,5 @@
-//! Certificates for the scheduler that reaches the least: from below over every choice, and from above over
-//! one choice of each state; and what they say of until.
+//! Certificates for the scheduler that reaches the least (minimal reachability probabilities): from below over every
+//! choice, and from above over one choice of each state (a memoryless strategy); and what they say of until.
 #![tactic(auto)]
 
 mod all;
@@ -10,7 +10,7 @@ mod ranks;
 mod rates;
 
 pub use all::{greatest_all, greatest_all_above, least_avoiding_within};
-pub use chain::pick_first;
+pub use chain::choose_first;
 pub use laws::{
     all_and_one, bounds_are_vectors, certificates_join, chains_have_one_scheduler,
     plans_are_supported, ranks_of_all_fit, rest_is_greatest, sides_are_apart, stages_of_all,

@@ -7,7 +7,8 @@ ghost use Rattle.lift_model.specs.Links.{HasChoice};
 ghost use Rattle.corner_lift.specs.Certificate.{AreNumbers};
 ghost use Rattle.corner_lift.specs.Lifted.{IsLiftedTo};
 ghost use Rattle.rounded_iter.specs.Watching.{CanIterate};
-ghost use Rattle.lift_dual.specs.Picking.{IsMet, HasMet, IsLowestMet, IsLowestPick, AreLowestPicks, IsLeastUpperOne, IsLeastUpperOneWithin};
+ghost use Rattle.lift_dual.specs.Choosing.{IsSatisfied, HasSatisfied, IsLowestSatisfied, IsLowestChoice, AreLowestChoices};
+ghost use Rattle.lift_dual.specs.Choosing.{IsLeastUpperOne, IsLeastUpperOneWithin};
 
 use crate::laws::bounds_are_vectors;
 use corner_lift::{Case, Lifted, one_at, rows_at_corners};
@@ -15,17 +16,17 @@ use float_guess::{Ends, Extreme, Rule};
 use lift_model::Links;
 use rounded_iter::least_bound_by_guess;
 
-/// In place of a pick where a state has none.
+/// In place of a chosen row where a state has none.
 const NONE: u32 = u32::MAX;
 
 /// Whether the state's choice meets its number.
 #[inline(always)]
-fn is_met(rows: &Lifted, lane: &[i64], s: u32, a: u32) -> bool
+fn is_satisfied(rows: &Lifted, lane: &[i64], s: u32, a: u32) -> bool
     ghost spans: { Spans }
     requires lifted { IsLiftedTo rows.now spans }
     requires numbers { AreNumbers rows.now.case lane.now }
     requires row { HasChoice rows.now.case.model s a }
-    ensures { IsTrue result ↔ IsMet rows.now.case spans lane.now s a }
+    ensures { IsTrue result ↔ IsSatisfied rows.now.case spans lane.now s a }
 {
     rows_at_corners();
     let _ = rows.w();
@@ -34,49 +35,50 @@ fn is_met(rows: &Lifted, lane: &[i64], s: u32, a: u32) -> bool
 
 /// The lowest choice of a state that meets its number, where one does. The last choice isn't looked at: where
 /// no other does, it does.
-fn lowest_met(rows: &Lifted, lane: &[i64], s: u32) -> u32
+fn lowest_satisfied(rows: &Lifted, lane: &[i64], s: u32) -> u32
     ghost spans: { Spans }
     requires lifted { IsLiftedTo rows.now spans }
     requires numbers { AreNumbers rows.now.case lane.now }
     requires state { s < length rows.now.case.model.states }
-    requires some { HasMet rows.now.case spans lane.now s }
-    ensures { IsLowestMet rows.now.case spans lane.now s result }
+    requires some { HasSatisfied rows.now.case spans lane.now s }
+    ensures { IsLowestSatisfied rows.now.case spans lane.now s result }
 {
     let last = rows.choice_count(s) - 1;
     for choice in 0..last {
-        if is_met(rows, lane, s, choice) {
+        if is_satisfied(rows, lane, s, choice) {
             return choice;
         }
     }
     last
 }
 
-/// The pick of a state: none where it is a goal state.
-fn lowest_pick(rows: &Lifted, lane: &[i64], s: u32) -> u32
+/// The chosen row of a state: none where it is a goal state.
+fn lowest_choice(rows: &Lifted, lane: &[i64], s: u32) -> u32
     ghost spans: { Spans }
     requires lifted { IsLiftedTo rows.now spans }
     requires numbers { AreNumbers rows.now.case lane.now }
     requires state { s < length rows.now.case.model.states }
-    requires some { is_goal rows.now.case.model s ≡ false → HasMet rows.now.case spans lane.now s }
-    ensures { IsLowestPick rows.now.case spans lane.now s result }
+    requires some { is_goal rows.now.case.model s ≡ false → HasSatisfied rows.now.case spans lane.now s }
+    ensures { IsLowestChoice rows.now.case spans lane.now s result }
 {
     if rows.model().is_goal(s) {
         return NONE;
     }
-    lowest_met(rows, lane, s)
+    lowest_satisfied(rows, lane, s)
 }
 
-/// Writes the picks of all states.
-fn pick_all(rows: &Lifted, lane: &[i64], picks: &mut [u32])
+/// Writes the choices of all states.
+fn choose_all(rows: &Lifted, lane: &[i64], picks: &mut [u32])
     ghost spans: { Spans }
     requires lifted { IsLiftedTo rows.now spans }
     requires numbers { AreNumbers rows.now.case lane.now }
     requires size { length picks.old ≡ length rows.now.case.model.states }
-    requires some { (s : ℕ) → s < length rows.now.case.model.states → is_goal rows.now.case.model s ≡ false → HasMet rows.now.case spans lane.now s }
-    ensures { AreLowestPicks rows.now.case spans lane.now picks.new }
+    requires some { (s : ℕ) → s < length rows.now.case.model.states → is_goal rows.now.case.model s ≡ false
+        → HasSatisfied rows.now.case spans lane.now s }
+    ensures { AreLowestChoices rows.now.case spans lane.now picks.new }
 {
     for s in 0..rows.model().states() {
-        picks[s as usize] = lowest_pick(rows, lane, s);
+        picks[s as usize] = lowest_choice(rows, lane, s);
     }
 }
 
@@ -107,7 +109,7 @@ pub fn least_one_within(
     if !least_bound_by_guess(rows, rule, limit, lane, work) {
         return false;
     }
-    pick_all(rows, lane, picks);
+    choose_all(rows, lane, picks);
     true
 }
 

@@ -177,7 +177,8 @@ impl NextStage<'_> {
         requires gathering { IsGatheringOfAll self.now.rows.now.case start self.now.rank found ranks.old queue.old }
         ensures gathering { IsGatheringOfAll self.now.rows.now.case start self.now.rank result ranks.new queue.new }
         ensures kept { AreKept ranks.old ranks.new }
-        ensures looked { All (IsLookedOfAll self.now.rows.now.case start self.now.rank ranks.new) (states_before self.now.rows.now.links t) }
+        ensures looked { All (IsLookedOfAll self.now.rows.now.case start self.now.rank ranks.new)
+            (states_before self.now.rows.now.links t) }
     {
         let _ = self.rows.w();
         let mut found = found;

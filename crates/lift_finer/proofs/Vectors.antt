@@ -4,8 +4,8 @@ use Rattle.lift_grid.specs.Rectangle.{Spans}
 use Rattle.lift_grid.specs.Tree.{RejectData}
 use Rattle.lift_model.specs.Model.{choices}
 use Rattle.corner_lift.specs.Case.{CaseData, number}
-use Rattle.corner_lift.specs.Certificate.{AreNumbers, MeansAtMost, IsUpper, IsLeastUpper, IsRate, IsHeld, IsLower, mark, picked_row, ranked_below}
-use Rattle.corner_lift.specs.Stages.{LeadsBelow, IsAllowed, IsPicked, AreStages, IsGreatestLower}
+use Rattle.corner_lift.specs.Certificate.{AreNumbers, MeansAtMost, IsUpper, IsLeastUpper, IsRate, IsHeld, IsLower, mark, chosen_row, ranked_below}
+use Rattle.corner_lift.specs.Stages.{LeadsBelow, IsAllowed, IsChosen, AreStages, IsGreatestLower}
 use Rattle.lift_cert.specs.declared.bound.Bound.{Bound}
 use Rattle.lift_cert.specs.Certificate.{IsAccepting, IsRejecting, NoneAccepts}
 use Rattle.lift_finer.proofs.Alike.{Carries, AreAlike, flipped, moved, most_carry, least_carry, enough_carry, leads_carry}
@@ -38,13 +38,13 @@ least_upper_carries x k root d depth spans others a h = record {
 -- ---- from below
 
 pub rate_carries : (r : RejectData) (e s : ℕ) → Carries (λ k spans. IsRate k spans r e s)
-rate_carries r e s k root d depth spans others a = enough_carry (picked_row k r s) (ranked_below (mark r.ranks) (mark r.ranks s)) (pos (2 ^ e)) k root d depth spans others a
+rate_carries r e s k root d depth spans others a = enough_carry (chosen_row k r s) (ranked_below (mark r.ranks) (mark r.ranks s)) (pos (2 ^ e)) k root d depth spans others a
 
 held_carries : (r : RejectData) (s : ℕ) → Carries (λ k spans. IsHeld k spans r s)
 held_carries r s k root d depth spans others a h = record {
   rank = h.rank;
   pick = h.pick;
-  means = least_carry (picked_row k r s) (number r.numbers) (number r.numbers s) k root d depth spans others a h.means;
+  means = least_carry (chosen_row k r s) (number r.numbers) (number r.numbers s) k root d depth spans others a h.means;
   rates = rate_carries r r.e s k root d depth spans others a h.rates;
 }
 
@@ -62,8 +62,8 @@ lower_carries r k root d depth spans others a h = record {
 allowed_carries : (y : ℕ → ℤ) (s b : ℕ) → Carries (λ k spans. IsAllowed k spans y s b)
 allowed_carries y s b k = least_carry _ y (y s) k
 
-picked_carries : (y : ℕ → ℤ) (pick rank : ℕ → ℕ) (s : ℕ) → Carries (λ k spans. IsPicked k spans (IsAllowed k spans y) pick rank s)
-picked_carries y pick rank s k root d depth spans others a h = record {
+chosen_carries : (y : ℕ → ℤ) (pick rank : ℕ → ℕ) (s : ℕ) → Carries (λ k spans. IsChosen k spans (IsAllowed k spans y) pick rank s)
+chosen_carries y pick rank s k root d depth spans others a h = record {
   later = h.later;
   in_range = h.in_range;
   is_allowed = allowed_carries y s (pick s) k root d depth spans others a h.is_allowed;
@@ -76,7 +76,7 @@ picked_carries y pick rank s k root d depth spans others a h = record {
 pub stages_carry : (y : ℕ → ℤ) (pick rank : ℕ → ℕ) → Carries (λ k spans. AreStages k spans (IsAllowed k spans y) pick rank)
 stages_carry y pick rank k root d depth spans others a h = record {
   goal = h.goal;
-  picked = λ s is lt. picked_carries y pick rank s k root d depth spans others a (h.picked s is lt);
+  chosen = λ s is lt. chosen_carries y pick rank s k root d depth spans others a (h.chosen s is lt);
   first = λ s is b r lt allowed some leads.
       h.first s is b r lt (back (λ k spans. IsAllowed k spans y s b) (allowed_carries y s b) k root d depth spans others a allowed) some
       (back (λ k spans. LeadsBelow k spans rank r s b) (leads_carry rank r s b) k root d depth spans others a leads);

@@ -89,7 +89,7 @@ LowersStay = (r : RejectData) → KnowsNoGrid (λ k spans. IsLower k spans r)
 abbrev pub StagesStay : Type 0
 StagesStay = (y : ℕ → ℤ) (pick rank : ℕ → ℕ) → KnowsNoGrid (λ k spans. AreStages k spans (IsAllowed k spans y) pick rank)
 
--- the greatest lower vector, with its ranks, its picks, its e and its k
+-- the greatest lower vector, with its ranks, its choices, its e and its k
 abbrev pub GreatestLowersStay : Type 0
 GreatestLowersStay = (r : RejectData) → KnowsNoGrid (λ k spans. IsGreatestLower k spans r)
 

@@ -1,5 +1,5 @@
-//! Finer grids: what is said of a rectangle stays as it is where the grid's number and all ends are multiplied
-//! by the same number.
+//! Finer grids (common denominators of a region's ends): what is said of a rectangle stays as it is where the grid's
+//! number and all ends are multiplied by the same number.
 #![tactic(auto)]
 
 mod finer;

@@ -1,4 +1,5 @@
-// Regions of parameter values: rectangles over a grid, their corners, and the text that names one.
+//! Regions of parameter values (hyper-rectangles): rectangles over a grid, their corners (vertices), how one is halved
+//! (region refinement), and the text that names one.
 #![tactic(auto)]
 
 mod clause;

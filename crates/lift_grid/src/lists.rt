@@ -42,7 +42,7 @@ impl Values {
     }
 }
 
-/// A list of unsigned numbers, as one rank or pick for each state.
+/// A list of unsigned numbers, as one rank or chosen row for each state.
 #[derive(Drop)]
 pub struct Marks {
     numbers: Vec<u32>,

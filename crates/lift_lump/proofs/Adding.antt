@@ -14,7 +14,7 @@ use Rattle.lift_model.specs.declared.entry.Entry.{Entry}
 use Rattle.lift_lump.specs.Lumping.{Partition, terms_into, sum_into, in_block}
 use Rattle.lift_lump.specs.Quotient.{one_entry, entries_into}
 use Rattle.lift_lump.specs.Search.{number_at}
-use Rattle.lift_lump.specs.Summing.{sum_at, entries_of, AreMetBlocks}
+use Rattle.lift_lump.specs.Summing.{sum_at, entries_of, AreVisitedBlocks}
 use Rattle.lift_lump.proofs.Keeping.{coefficient-append}
 use Rattle.lift_lump.proofs.Sides.{side, same_or_not}
 
@@ -102,26 +102,26 @@ sums_all block row i count sums past are = upto count (omega arith)
 
 -- ---- the blocks that are met
 
-pub met_none : (sums : List (List Term)) → ((b : ℕ) → sum_at sums b ≡ []) → (met : List ℕ) → met ≡ [] → AreMetBlocks sums met
-met_none sums none met is = record { some = λ b some. absurd (some (none b)); blocks = subst (All (λ b. b < length sums)) (sym is) (λ k d lt. absurd (let f : k < 0 = lt in omega (arith, f))) }
+pub visited_none : (sums : List (List Term)) → ((b : ℕ) → sum_at sums b ≡ []) → (visited : List ℕ) → visited ≡ [] → AreVisitedBlocks sums visited
+visited_none sums none visited is = record { some = λ b some. absurd (some (none b)); blocks = subst (All (λ b. b < length sums)) (sym is) (λ k d lt. absurd (let f : k < 0 = lt in omega (arith, f))) }
 
-pub met_more : (old : List (List Term)) (met new : List ℕ) (block : ℕ) (poly : List Term) (is_first : Bool) → block < length old → is_first ≡ nat_eq (length (sum_at old block)) 0 → (is_first ≡ true → new ≡ met ++ block ∷ []) → (is_first ≡ false → new ≡ met)
-    → AreMetBlocks old met → AreMetBlocks (set old block poly) new
-met_more old met new block poly is_first b_in is first other are = record {
+pub visited_more : (old : List (List Term)) (visited new : List ℕ) (block : ℕ) (poly : List Term) (is_first : Bool) → block < length old → is_first ≡ nat_eq (length (sum_at old block)) 0 → (is_first ≡ true → new ≡ visited ++ block ∷ []) → (is_first ≡ false → new ≡ visited)
+    → AreVisitedBlocks old visited → AreVisitedBlocks (set old block poly) new
+visited_more old visited new block poly is_first b_in is first other are = record {
   some = λ b some. by b some (same_or_not b block);
   blocks = subst (λ n. All (λ b. b < n) new) (sym (length-set old block poly)) (inside is_first refl);
 }
   where
     inside : (b : Bool) → is_first ≡ b → All (λ b. b < length old) new
-    inside true e = subst (All (λ b. b < length old)) (sym (first e)) (All-push (λ b. b < length old) met block are.blocks b_in)
+    inside true e = subst (All (λ b. b < length old)) (sym (first e)) (All-push (λ b. b < length old) visited block are.blocks b_in)
     inside false e = subst (All (λ b. b < length old)) (sym (other e)) are.blocks
 
-    kept : (b : ℕ) → Contains met b → (f : Bool) → is_first ≡ f → Contains new b
-    kept b there true e = subst (λ (xs : List ℕ). Contains xs b) (sym (first e)) (Contains-append_left met (block ∷ []) b there)
+    kept : (b : ℕ) → Contains visited b → (f : Bool) → is_first ≡ f → Contains new b
+    kept b there true e = subst (λ (xs : List ℕ). Contains xs b) (sym (first e)) (Contains-append_left visited (block ∷ []) b there)
     kept b there false e = subst (λ (xs : List ℕ). Contains xs b) (sym (other e)) there
 
     here : (f : Bool) → is_first ≡ f → Contains new block
-    here true e = subst (λ (xs : List ℕ). Contains xs block) (sym (first e)) (Contains-push met block)
+    here true e = subst (λ (xs : List ℕ). Contains xs block) (sym (first e)) (Contains-push visited block)
     here false e = kept block (are.some block (λ none. absurd (let f : true ≡ false = sym (is ∙ ap (λ (ts : List Term). nat_eq (length ts) 0) none) ∙ e in cc))) false e
 
     by : (b : ℕ) → sum_at (set old block poly) b ≢ [] → (b ≡ block) ⊎ (b ≢ block) → Contains new b
@@ -130,18 +130,18 @@ met_more old met new block poly is_first b_in is first other are = record {
 
 -- ---- sums that are taken
 
-pub record AreTaken (sums0 : List (List Term)) (met : List ℕ) (i : ℕ) (sums : List (List Term)) (entries : List Entry) : Type 0 where
+pub record AreTaken (sums0 : List (List Term)) (visited : List ℕ) (i : ℕ) (sums : List (List Term)) (entries : List Entry) : Type 0 where
   pub bound : ℕ
   pub count : length sums ≡ length sums0
   pub bounded : bound ≤ length sums0
-  pub below : (j : ℕ) → j < i → number_at met j < bound
-  pub reach : (j : ℕ) → i ≤ j → j < length met → bound ≤ number_at met j + 1
+  pub below : (j : ℕ) → j < i → number_at visited j < bound
+  pub reach : (j : ℕ) → i ≤ j → j < length visited → bound ≤ number_at visited j + 1
   pub left : (k : ℕ) → bound ≤ k → sum_at sums k ≡ sum_at sums0 k
   pub gone : (k : ℕ) → k < bound → sum_at sums k ≡ []
   pub made : entries ≡ entries_of sums0 bound
 
-pub taken_none : (sums : List (List Term)) (met : List ℕ) (entries : List Entry) → entries ≡ [] → AreTaken sums met 0 sums entries
-taken_none sums met entries is = record {
+pub taken_none : (sums : List (List Term)) (visited : List ℕ) (entries : List Entry) → entries ≡ [] → AreTaken sums visited 0 sums entries
+taken_none sums visited entries is = record {
   bound = 0;
   count = refl;
   bounded = omega arith;
@@ -161,38 +161,38 @@ skip sums lo (suc hi) le none = by (side hi lo) (λ low. skip sums lo hi low (λ
     by (inr low) rest =
         ap (λ (ts : List Term). entries_of sums hi ++ one_entry hi ts) (none hi low (omega arith)) ∙ append-nil (entries_of sums hi) ∙ rest low
 
-module _ (sums0 : List (List Term)) (met : List ℕ) (met_are : AreMetBlocks sums0 met) (sorted : IsNonDecreasing met) where
+module _ (sums0 : List (List Term)) (visited : List ℕ) (visited_are : AreVisitedBlocks sums0 visited) (sorted : IsNonDecreasing visited) where
   -- a block that isn't met from a place on, and lies above those before, has the sum 0
-  unmet : (i bound k : ℕ) → ((j : ℕ) → j < i → number_at met j < bound) → bound ≤ k → ((j : ℕ) → i ≤ j → j < length met → k < number_at met j) → sum_at sums0 k ≡ []
-  unmet i bound k below le above = by (none_or_some (sum_at sums0 k))
+  unvisited : (i bound k : ℕ) → ((j : ℕ) → j < i → number_at visited j < bound) → bound ≤ k → ((j : ℕ) → i ≤ j → j < length visited → k < number_at visited j) → sum_at sums0 k ≡ []
+  unvisited i bound k below le above = by (none_or_some (sum_at sums0 k))
     where
-      at : (j : ℕ) → j < length met → number_at met j ≡ k → (j < i) ⊎ (i ≤ j) → ⊥
+      at : (j : ℕ) → j < length visited → number_at visited j ≡ k → (j < i) ⊎ (i ≤ j) → ⊥
       at j lt is (inl before) = let low = below j before in omega (arith, low, is, le)
       at j lt is (inr from) = let high = above j from lt in omega (arith, high, is)
 
       by : (sum_at sums0 k ≡ []) ⊎ (sum_at sums0 k ≢ []) → sum_at sums0 k ≡ []
       by (inl none) = none
       by (inr some) =
-          let there = met_are.some k some in
-          absurd (at there.0 there.1 (get_or_default met there.0 0 k there.1 ∙ there.2) (side there.0 i))
+          let there = visited_are.some k some in
+          absurd (at there.0 there.1 (get_or_default visited there.0 0 k there.1 ∙ there.2) (side there.0 i))
 
-  pub taken_more : (i b : ℕ) (sums : List (List Term)) (entries : List Entry) → i < length met → number_at met i ≡ b → AreTaken sums0 met i sums entries → AreTaken sums0 met (i + 1) (set sums b []) (entries ++ one_entry b (sum_at sums b))
+  pub taken_more : (i b : ℕ) (sums : List (List Term)) (entries : List Entry) → i < length visited → number_at visited i ≡ b → AreTaken sums0 visited i sums entries → AreTaken sums0 visited (i + 1) (set sums b []) (entries ++ one_entry b (sum_at sums b))
   taken_more i b sums entries i_in is are = by (side b are.bound)
     where
       b_in : b < length sums0
-      b_in = subst (λ k. k < length sums0) is (met_are.blocks i 0 i_in)
+      b_in = subst (λ k. k < length sums0) is (visited_are.blocks i 0 i_in)
 
-      rises : (j : ℕ) → i ≤ j → j < length met → b ≤ number_at met j
-      rises j le lt = subst (λ k. k ≤ number_at met j) is (sorted i j 0 le lt)
+      rises : (j : ℕ) → i ≤ j → j < length visited → b ≤ number_at visited j
+      rises j le lt = subst (λ k. k ≤ number_at visited j) is (sorted i j 0 le lt)
 
-      last : (j : ℕ) → j < i + 1 → i ≤ j → number_at met j ≡ b
-      last j lt le = ap (number_at met) (let e : j ≡ i = omega (arith, lt, le) in e) ∙ is
+      last : (j : ℕ) → j < i + 1 → i ≤ j → number_at visited j ≡ b
+      last j lt le = ap (number_at visited) (let e : j ≡ i = omega (arith, lt, le) in e) ∙ is
 
       cleared : (k : ℕ) → (k ≡ b) ⊎ (k ≢ b) → sum_at sums k ≡ [] → sum_at (set sums b []) k ≡ []
       cleared k (inl e) none = ap (sum_at (set sums b [])) e ∙ get_or-set_same sums b [] [] (let c = are.count in omega (arith, b_in, c))
       cleared k (inr ne) none = get_or-set_other sums b k [] [] ne ∙ none
 
-      by : (b < are.bound) ⊎ (are.bound ≤ b) → AreTaken sums0 met (i + 1) (set sums b []) (entries ++ one_entry b (sum_at sums b))
+      by : (b < are.bound) ⊎ (are.bound ≤ b) → AreTaken sums0 visited (i + 1) (set sums b []) (entries ++ one_entry b (sum_at sums b))
       by (inl less) = record {
         bound = are.bound;
         count = length-set sums b [] ∙ are.count;
@@ -204,7 +204,7 @@ module _ (sums0 : List (List Term)) (met : List ℕ) (met_are : AreMetBlocks sum
         made = ap (λ (ts : List Term). entries ++ one_entry b ts) (are.gone b less) ∙ append-nil entries ∙ are.made;
       }
         where
-          below : (j : ℕ) → j < i + 1 → (j < i) ⊎ (i ≤ j) → number_at met j < are.bound
+          below : (j : ℕ) → j < i + 1 → (j < i) ⊎ (i ≤ j) → number_at visited j < are.bound
           below j lt (inl before) = are.below j before
           below j lt (inr from) = subst (λ k. k < are.bound) (sym (last j lt from)) less
       by (inr least) = record {
@@ -218,12 +218,12 @@ module _ (sums0 : List (List Term)) (met : List ℕ) (met_are : AreMetBlocks sum
         made = more;
       }
         where
-          below : (j : ℕ) → j < i + 1 → (j < i) ⊎ (i ≤ j) → number_at met j < b + 1
+          below : (j : ℕ) → j < i + 1 → (j < i) ⊎ (i ≤ j) → number_at visited j < b + 1
           below j lt (inl before) = let low = are.below j before in omega (arith, low, least)
           below j lt (inr from) = let e = last j lt from in omega (arith, e)
 
           none : (k : ℕ) → are.bound ≤ k → k < b → sum_at sums0 k ≡ []
-          none k le lt = unmet i are.bound k are.below le (λ j from j_in. let r = rises j from j_in in omega (arith, r, lt))
+          none k le lt = unvisited i are.bound k are.below le (λ j from j_in. let r = rises j from j_in in omega (arith, r, lt))
 
           gone : (k : ℕ) → k < b + 1 → (k < are.bound) ⊎ (are.bound ≤ k) → (k ≡ b) ⊎ (k ≢ b) → sum_at (set sums b []) k ≡ []
           gone k lt _ (inl e) = ap (sum_at (set sums b [])) e ∙ get_or-set_same sums b [] [] (let c = are.count in omega (arith, b_in, c))
@@ -235,17 +235,17 @@ module _ (sums0 : List (List Term)) (met : List ℕ) (met_are : AreMetBlocks sum
               ap₂ (λ (xs ys : List Entry). xs ++ ys) (are.made ∙ sym (skip sums0 are.bound b least none)) (ap (one_entry b) (are.left b least))
               ∙ ap (entries_of sums0) (let e : suc b ≡ b + 1 = omega arith in e)
 
-  pub taken_all : (i : ℕ) (sums : List (List Term)) (entries : List Entry) → length met ≤ i → AreTaken sums0 met i sums entries → (entries ≡ entries_of sums0 (length sums0)) × ((k : ℕ) → sum_at sums k ≡ [])
+  pub taken_all : (i : ℕ) (sums : List (List Term)) (entries : List Entry) → length visited ≤ i → AreTaken sums0 visited i sums entries → (entries ≡ entries_of sums0 (length sums0)) × ((k : ℕ) → sum_at sums k ≡ [])
   taken_all i sums entries past are =
-      let none = λ (k : ℕ) (le : are.bound ≤ k). unmet i are.bound k are.below le (λ j from lt. absurd (omega (arith, from, lt, past))) in
+      let none = λ (k : ℕ) (le : are.bound ≤ k). unvisited i are.bound k are.below le (λ j from lt. absurd (omega (arith, from, lt, past))) in
       (are.made ∙ sym (skip sums0 are.bound (length sums0) are.bounded (λ k le lt. none k le)), λ k. by k none (side k are.bound))
     where
       by : (k : ℕ) → ((k : ℕ) → are.bound ≤ k → sum_at sums0 k ≡ []) → (k < are.bound) ⊎ (are.bound ≤ k) → sum_at sums k ≡ []
       by k none (inl low) = are.gone k low
       by k none (inr from) = are.left k from ∙ none k from
 
-pub met_sorted : (sums : List (List Term)) (old new : List ℕ) → IsPermutation old new → AreMetBlocks sums old → AreMetBlocks sums new
-met_sorted sums old new moved are = record { some = λ b some. Contains-permutation old new b moved (are.some b some); blocks = All-permutation (λ b. b < length sums) old new moved are.blocks }
+pub visited_sorted : (sums : List (List Term)) (old new : List ℕ) → IsPermutation old new → AreVisitedBlocks sums old → AreVisitedBlocks sums new
+visited_sorted sums old new moved are = record { some = λ b some. Contains-permutation old new b moved (are.some b some); blocks = All-permutation (λ b. b < length sums) old new moved are.blocks }
 
 -- ---- copies of the polynomial 0
 

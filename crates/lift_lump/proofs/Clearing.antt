@@ -3,7 +3,7 @@ use Rattle.std.proofs.Common.{◌≡◌, ◌≢◌, ◌⊎◌, inl, inr, ℕ, �
 use Rattle.std.proofs.lemmas.List.{get_or-set_same, get_or-set_other, get_or_default, get_or_past, length-set}
 use Rattle.lift_lump.specs.declared.arrows.Arrow.{Arrow}
 use Rattle.lift_lump.specs.Laws.{StepsKeep}
-use Rattle.lift_lump.specs.Search.{marked, number_at, AreMet, AreMarked, AreNumbersOf, IsByNumber}
+use Rattle.lift_lump.specs.Search.{marked, number_at, AreVisited, AreMarked, AreNumbersOf, IsByNumber}
 use Rattle.lift_lump.specs.declared.touch.Touched.{Touched}
 use Rattle.lift_lump.specs.Renaming.{AreTouched, AreAllTouched, no_touched, state_at}
 use Rattle.lift_lump.specs.Splitting.{list_of, AreListed, AreGathered, labelled, AreTelling, IsKeptAbove, IsBegun}
@@ -75,14 +75,14 @@ cleared_more states i old mid new are step = record {
     by k lt some (inl before) = are.gone k before (step (get_or states k 0) some).0
     by k lt some (inr from) = (step (get_or states k 0) some).1 (let e : k ≡ i = omega (arith, lt, from) in ap (λ j. get_or states j 0) e)
 
-pub cleared_all : (states : List ℕ) (i : ℕ) (old new : List ℕ) → length states ≤ i → AreMet old states → AreCleared states i old new → (u : ℕ) → number_at new u ≡ 0
-cleared_all states i old new past met are u = by (same_or_not (number_at new u) 0) (side u (length old))
+pub cleared_all : (states : List ℕ) (i : ℕ) (old new : List ℕ) → length states ≤ i → AreVisited old states → AreCleared states i old new → (u : ℕ) → number_at new u ≡ 0
+cleared_all states i old new past visited are u = by (same_or_not (number_at new u) 0) (side u (length old))
   where
     by : (number_at new u ≡ 0) ⊎ (number_at new u ≢ 0) → (u < length old) ⊎ (length old ≤ u) → number_at new u ≡ 0
     by (inl none) _ = none
     by (inr some) (inr out) = absurd (are.left u some (get_or_past old u 0 out))
     by (inr some) (inl lt) =
-        let there = met u lt (are.left u some) in
+        let there = visited u lt (are.left u some) in
         let at : get_or states there.0 0 ≡ u = get_or_default states there.0 0 u there.1 ∙ there.2 in
         absurd (are.gone there.0 (omega (arith, there.1, past)) (λ none. some (ap (number_at new) (sym at) ∙ none)))
 
@@ -129,11 +129,11 @@ pub kept_more : (into : ℕ → List Arrow) (a b c : List ℕ) → length b ≡ 
 kept_more into a b c size first next m v model count arrows above = next m v model (count ∙ sym size) arrows (first m v model count arrows above)
 
 -- where a state has a number, some state is touched, and the list of its block is there
-pub begun : (labels numbers met : List ℕ) (members : List (List ℕ)) (touched : List Touched) → length numbers ≡ length labels → 0 < length met → All (λ s. (s < length numbers) × (number_at numbers s ≢ 0)) met → AreGathered labels numbers members touched → AreListed labels members → IsBegun touched labels members
-begun labels numbers met members touched size some others are listed =
+pub begun : (labels numbers visited : List ℕ) (members : List (List ℕ)) (touched : List Touched) → length numbers ≡ length labels → 0 < length visited → All (λ s. (s < length numbers) × (number_at numbers s ≢ 0)) visited → AreGathered labels numbers members touched → AreListed labels members → IsBegun touched labels members
+begun labels numbers visited members touched size some others are listed =
     let first = others 0 0 some in
     let low = first.0 in
-    let there = are.some (get_or met 0 0) (omega (arith, low, size)) first.1 in
+    let there = are.some (get_or visited 0 0) (omega (arith, low, size)) first.1 in
     let is_some : 0 < length touched = (let lt = there.1 in omega (arith, lt)) in
     let state = (are.touched.each 0 no_touched is_some).inside in
     let in_list = listed (state_at touched 0) state in

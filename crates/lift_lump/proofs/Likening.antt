@@ -12,7 +12,7 @@ use Rattle.lift_lump.specs.Quotient.{Blocks, block, first, AreNumbered, one_entr
 use Rattle.lift_lump.specs.Laws.{EntriesTellSums}
 use Rattle.lift_lump.specs.Search.{number_at, IsByNumber}
 use Rattle.lift_lump.specs.Splitting.{AreSameBlocks, HaveNone, labelled}
-use Rattle.lift_lump.specs.Comparing.{IsLike, IsTold, AreCompared, row_text}
+use Rattle.lift_lump.specs.Comparing.{IsLike, IsNumbered, AreCompared, row_text}
 use Rattle.lift_lump.specs.declared.compared.Compared.{Compared}
 use Rattle.lift_lump.proofs.Holding.{targets_inside}
 use Rattle.lift_lump.proofs.Keeping.{sums_agree}
@@ -29,8 +29,8 @@ compared_none m p numbers different texts size zeros is = record {
   like = λ s lt. absurd (omega (arith, lt));
   other = λ s lt. absurd (omega (arith, lt));
   places = λ s. let none = zeros s in omega (arith, none);
-  told = λ s some. absurd (some (zeros s));
-  met = λ s lt some. absurd (some (zeros s));
+  reported = λ s some. absurd (some (zeros s));
+  visited = λ s lt some. absurd (some (zeros s));
   some = subst (All (λ s. (s < length numbers) × (number_at numbers s ≢ 0))) (sym is) (All-nil (λ s. (s < length numbers) × (number_at numbers s ≢ 0)));
 }
 
@@ -41,8 +41,8 @@ module _ (m : ModelData) (p : Blocks) (count : ℕ) (numbers different : List �
     like = λ s lt none. by s lt none (side s count);
     other = λ s lt is. other s lt is (side s count);
     places = are.places;
-    told = are.told;
-    met = are.met;
+    reported = are.reported;
+    visited = are.visited;
     some = are.some;
   }
     where
@@ -84,8 +84,8 @@ module _ (m : ModelData) (p : Blocks) (count : ℕ) (numbers different : List �
       like = λ s lt none. by s lt none (same_or_not s count);
       other = λ s lt is. other s lt is (same_or_not s count);
       places = λ s. places s (same_or_not s count);
-      told = λ s some. told s some (same_or_not s count);
-      met = λ s lt some. met s lt some (same_or_not s count);
+      reported = λ s some. reported s some (same_or_not s count);
+      visited = λ s lt some. visited s lt some (same_or_not s count);
       some = All-push Some different count (All-weaker Old Some kept different are.some) (omega (arith, lt_in, length-set numbers count (place + 1)), λ none. absurd (let e : place + 1 ≡ 0 = sym here ∙ none in omega (arith, e)));
     }
       where
@@ -114,20 +114,20 @@ module _ (m : ModelData) (p : Blocks) (count : ℕ) (numbers different : List �
         places s (inl e) = let n : number_at new s ≡ place + 1 = ap (number_at new) e ∙ here in omega (arith, n, inside)
         places s (inr ne) = let n = away s ne in let was = are.places s in omega (arith, n, was, more)
 
-        told : (s : ℕ) → number_at new s ≢ 0 → (s ≡ count) ⊎ (s ≢ count) → get_or new_texts (number_at new s - 1) [] ≡ row_text (quotient_row m p s)
-        told s some (inl e) =
+        reported : (s : ℕ) → number_at new s ≢ 0 → (s ≡ count) ⊎ (s ≢ count) → get_or new_texts (number_at new s - 1) [] ≡ row_text (quotient_row m p s)
+        reported s some (inl e) =
             ap (λ n. get_or new_texts n []) (let n : number_at new s ≡ place + 1 = ap (number_at new) e ∙ here in let f : number_at new s - 1 ≡ place = omega (arith, n) in f)
             ∙ there ∙ is_text ∙ ap (λ k. row_text (quotient_row m p k)) (sym e)
-        told s some (inr ne) =
+        reported s some (inr ne) =
             let was : number_at numbers s ≢ 0 = λ none. some (away s ne ∙ none) in
             let low = are.places s in
             ap (λ n. get_or new_texts (n - 1) []) (away s ne)
             ∙ kept_text (number_at numbers s - 1) (grind (arith, low, was))
-            ∙ are.told s was
+            ∙ are.reported s was
 
-        met : (s : ℕ) → s < length new → number_at new s ≢ 0 → (s ≡ count) ⊎ (s ≢ count) → Contains (different ++ count ∷ []) s
-        met s lt some (inl e) = subst (Contains (different ++ count ∷ [])) (sym e) (Contains-push different count)
-        met s lt some (inr ne) = Contains-append_left different (count ∷ []) s (are.met s (omega (arith, lt, length-set numbers count (place + 1))) (λ none. some (away s ne ∙ none)))
+        visited : (s : ℕ) → s < length new → number_at new s ≢ 0 → (s ≡ count) ⊎ (s ≢ count) → Contains (different ++ count ∷ []) s
+        visited s lt some (inl e) = subst (Contains (different ++ count ∷ [])) (sym e) (Contains-push different count)
+        visited s lt some (inr ne) = Contains-append_left different (count ∷ []) s (are.visited s (omega (arith, lt, length-set numbers count (place + 1))) (λ none. some (away s ne ∙ none)))
 
 -- the states that weren't looked at yet have the number 0
 abbrev pub AreLater : ℕ → List ℕ → Type 0
@@ -152,13 +152,13 @@ looked_same m p count c like are = record {
   few = let few = are.few in omega (arith, few);
 }
 
-pub looked_told : (m : ModelData) (p : Blocks) (count : ℕ) (old new : Compared) (text : List ℕ) → count < length m.states → (IsLike m p count → ⊥) → text ≡ row_text (quotient_row m p count) → IsTold count text old new → AreLooked m p count old → AreLooked m p (count + 1) new
-looked_told m p count old new text lt unlike is told are = record {
-  compared = subst (λ (ns : List ℕ). AreCompared m p (count + 1) ns new.different.items new.texts) (sym told.numbers)
-      (subst (λ (ds : List ℕ). AreCompared m p (count + 1) (set old.numbers.items count (told.place + 1)) ds new.texts) (sym told.list)
-      (compared_other m p count old.numbers.items old.different.items old.texts are.compared are.later text new.texts told.place (let size = are.compared.size in omega (arith, lt, size)) told.inside told.there told.texts is unlike));
-  later = later_other count (told.place + 1) old.numbers.items new.numbers.items told.numbers are.later;
-  few = by told.texts;
+pub looked_numbered : (m : ModelData) (p : Blocks) (count : ℕ) (old new : Compared) (text : List ℕ) → count < length m.states → (IsLike m p count → ⊥) → text ≡ row_text (quotient_row m p count) → IsNumbered count text old new → AreLooked m p count old → AreLooked m p (count + 1) new
+looked_numbered m p count old new text lt unlike is reported are = record {
+  compared = subst (λ (ns : List ℕ). AreCompared m p (count + 1) ns new.different.items new.texts) (sym reported.numbers)
+      (subst (λ (ds : List ℕ). AreCompared m p (count + 1) (set old.numbers.items count (reported.place + 1)) ds new.texts) (sym reported.list)
+      (compared_other m p count old.numbers.items old.different.items old.texts are.compared are.later text new.texts reported.place (let size = are.compared.size in omega (arith, lt, size)) reported.inside reported.there reported.texts is unlike));
+  later = later_other count (reported.place + 1) old.numbers.items new.numbers.items reported.numbers are.later;
+  few = by reported.texts;
 }
   where
     by : (new.texts ≡ old.texts) ⊎ (new.texts ≡ old.texts ++ text ∷ []) → length new.texts ≤ count + 1
@@ -249,7 +249,7 @@ module _ (m : ModelData) (labels : List ℕ) (p : Blocks) (is : IsModel m) (size
         by (inl a) _ = a ∙ sym (are.other t together.states.1 (like s t together (are.like s together.states.0 a)))
         by (inr a) (inl b) = are.other s together.states.0 (like t s back (are.like t together.states.1 b)) ∙ sym b
         by (inr a) (inr b) =
-            let rows : get_or texts (number_at numbers s - 1) [] ≡ get_or texts (number_at numbers t - 1) [] = are.told s a ∙ ap row_text (rows_same other right s t together) ∙ sym (are.told t b) in
+            let rows : get_or texts (number_at numbers s - 1) [] ≡ get_or texts (number_at numbers t - 1) [] = are.reported s a ∙ ap row_text (rows_same other right s t together) ∙ sym (are.reported t b) in
             let s_low = are.places s in
             let t_low = are.places t in
             let same_place = one_place texts apart (number_at numbers s - 1) (number_at numbers t - 1) (grind (arith, s_low, a)) (grind (arith, t_low, b)) rows in
@@ -264,4 +264,4 @@ module _ (m : ModelData) (labels : List ℕ) (p : Blocks) (is : IsModel m) (size
       where
         zero_there : (s : ℕ) → s < length m.states → (number_at numbers s ≡ 0) ⊎ (number_at numbers s ≢ 0) → number_at numbers s ≡ 0
         zero_there s lt (inl none) = none
-        zero_there s lt (inr some) = absurd (let there = are.met s (let e = are.size in omega (arith, lt, e)) some in let f : there.0 < 0 = there.1 in omega (arith, f))
+        zero_there s lt (inr some) = absurd (let there = are.visited s (let e = are.size in omega (arith, lt, e)) some in let f : there.0 < 0 = there.1 in omega (arith, f))

@@ -151,8 +151,8 @@ module _ (touched : List Touched) (old : List ℕ) (before : List (List ℕ)) (s
     own_label : (number_at labels s ≡ block_at touched i) ⊎ (Follows touched i × (number_at labels s ≡ name))
     own_label = by (stands touched s i)
       where
-        met : (j : ℕ) → j < i → state_at touched j ≡ s → (k : ℕ) → k + 1 ≡ i → Follows touched i × (number_at labels s ≡ name)
-        met j lt e k is =
+        visited : (j : ℕ) → j < i → state_at touched j ≡ s → (k : ℕ) → k + 1 ≡ i → Follows touched i × (number_at labels s ≡ name)
+        visited j lt e k is =
             let same : key_at touched j ≡ key_at touched i = keys j i (omega (arith, lt, i_in)) i_in e in
             let low = sorted j k (omega (arith, lt, is)) (omega (arith, i_in, is)) in
             let high = sorted k i (omega (arith, is)) i_in in
@@ -163,7 +163,7 @@ module _ (touched : List Touched) (old : List ℕ) (before : List (List ℕ)) (s
 
         by : ((j : ℕ) × (j < i) × (state_at touched j ≡ s)) ⊎ ((j : ℕ) → j < i → state_at touched j ≢ s) → (number_at labels s ≡ block_at touched i) ⊎ (Follows touched i × (number_at labels s ≡ name))
         by (inr none) = inl (are.renamed.others s none ∙ sym (keyed i i_in))
-        by (inl a) = inr (met a.0 a.1 a.2 (i - 1) (let lt = a.1 in omega (arith, lt)))
+        by (inl a) = inr (visited a.0 a.1 a.2 (i - 1) (let lt = a.1 in omega (arith, lt)))
 
     -- the state's own label at the beginning of a run is its block
     pub fresh_label : Begins touched i → number_at labels s ≡ block_at touched i

@@ -5,7 +5,7 @@ use Rattle.std.proofs.lemmas.List.Elements.{All-nil, All-push, Contains-push_cas
 use Rattle.std.proofs.lemmas.List.Sorted.{IsPermutation-map, Contains-permutation, All-permutation}
 use Rattle.std.specs.List.Sorted.{IsPermutation}
 use Rattle.std.proofs.lemmas.Nat.{div-mul-add}
-use Rattle.lift_lump.specs.Search.{AreMet}
+use Rattle.lift_lump.specs.Search.{AreVisited}
 use Rattle.lift_lump.specs.declared.touch.Touched.{Touched}
 use Rattle.lift_lump.specs.Renaming.{key_of, no_touched, key_at, state_at, IsTouched, StandsIn, AreTouched, IsLookedAt, AreLookedAt, AreAllTouched, AreKeyed}
 use Rattle.lift_lump.specs.Splitting.{AreAdded, AreGathered, HaveRest, HaveNone, IsLeft}
@@ -25,24 +25,24 @@ looked_pushed labels numbers s old key lt is some = record {
   here = λ inside number. (length old, omega (arith, length_push old (record { key = key; state = s })), ap (λ (x : Touched). x.state) (get_or_push old (record { key = key; state = s }) no_touched (length old) refl));
 }
 
-pub looked_none : (labels numbers met : List ℕ) → AreLookedAt labels numbers (take 0 met) []
-looked_none labels numbers met = record { each = All-nil (IsTouched labels numbers); some = All-nil (HasNumber numbers); all = λ k lt. absurd (omega (arith, lt)) }
+pub looked_none : (labels numbers visited : List ℕ) → AreLookedAt labels numbers (take 0 visited) []
+looked_none labels numbers visited = record { each = All-nil (IsTouched labels numbers); some = All-nil (HasNumber numbers); all = λ k lt. absurd (omega (arith, lt)) }
 
-pub looked_more : (labels numbers met : List ℕ) (i : ℕ) (old new : List Touched) → i < length met → AreLookedAt labels numbers (take i met) old → IsLookedAt labels numbers (get_or met i 0) old new → AreLookedAt labels numbers (take (i + 1) met) new
-looked_more labels numbers met i old new i_in are more = record {
+pub looked_more : (labels numbers visited : List ℕ) (i : ℕ) (old new : List Touched) → i < length visited → AreLookedAt labels numbers (take i visited) old → IsLookedAt labels numbers (get_or visited i 0) old new → AreLookedAt labels numbers (take (i + 1) visited) new
+looked_more labels numbers visited i old new i_in are more = record {
   each = more.each are.each;
   some = more.some are.some;
   all = λ k k_in inside some. at k k_in inside some (side k i);
 }
   where
-    at : (k : ℕ) → k < length (take (i + 1) met) → get_or (take (i + 1) met) k 0 < length labels → get_or numbers (get_or (take (i + 1) met) k 0) 0 ≢ 0 → (k < i) ⊎ (i ≤ k) → StandsIn new (get_or (take (i + 1) met) k 0)
+    at : (k : ℕ) → k < length (take (i + 1) visited) → get_or (take (i + 1) visited) k 0 < length labels → get_or numbers (get_or (take (i + 1) visited) k 0) 0 ≢ 0 → (k < i) ⊎ (i ≤ k) → StandsIn new (get_or (take (i + 1) visited) k 0)
     at k k_in inside some (inl before) =
-        let same : get_or (take (i + 1) met) k 0 ≡ get_or (take i met) k 0 = get_or-take (i + 1) met k 0 (omega (arith, before)) ∙ sym (get_or-take i met k 0 before) in
-        let k_before : k < length (take i met) = omega (arith, before, length-take-le i met (omega (arith, i_in))) in
-        subst (StandsIn new) (sym same) (more.kept (get_or (take i met) k 0) (are.all k k_before (subst (λ s. s < length labels) same inside) (subst (λ s. get_or numbers s 0 ≢ 0) same some)))
+        let same : get_or (take (i + 1) visited) k 0 ≡ get_or (take i visited) k 0 = get_or-take (i + 1) visited k 0 (omega (arith, before)) ∙ sym (get_or-take i visited k 0 before) in
+        let k_before : k < length (take i visited) = omega (arith, before, length-take-le i visited (omega (arith, i_in))) in
+        subst (StandsIn new) (sym same) (more.kept (get_or (take i visited) k 0) (are.all k k_before (subst (λ s. s < length labels) same inside) (subst (λ s. get_or numbers s 0 ≢ 0) same some)))
     at k k_in inside some (inr from) =
-        let e : k ≡ i = omega (arith, from, k_in, length-take-le (i + 1) met (omega (arith, i_in))) in
-        let same : get_or (take (i + 1) met) k 0 ≡ get_or met i 0 = get_or-take (i + 1) met k 0 (omega (arith, e)) ∙ ap (λ j. get_or met j 0) e in
+        let e : k ≡ i = omega (arith, from, k_in, length-take-le (i + 1) visited (omega (arith, i_in))) in
+        let same : get_or (take (i + 1) visited) k 0 ≡ get_or visited i 0 = get_or-take (i + 1) visited k 0 (omega (arith, e)) ∙ ap (λ j. get_or visited j 0) e in
         subst (StandsIn new) (sym same) (more.here (subst (λ s. s < length labels) same inside) (subst (λ s. get_or numbers s 0 ≢ 0) same some))
 
 abbrev states_of : List Touched → List ℕ
@@ -64,20 +64,20 @@ only_one s t there = by there.0 there.1 there.2
     by (suc k) lt e = absurd (omega (arith, lt))
 
 -- each state of the list that was gone over stands there, if its number isn't 0
-pub looked_some : (labels numbers met : List ℕ) (i : ℕ) (list : List Touched) → length numbers ≡ length labels → length met ≤ i → AreMet numbers met → AreLookedAt labels numbers (take i met) list → AreAllTouched labels numbers list
-looked_some labels numbers met i list size past are_met are t t_in some =
-    let found = are_met t (omega (arith, size, t_in)) some in
-    let at : get_or (take i met) found.0 0 ≡ t = get_or-take i met found.0 0 (omega (arith, found.1, past)) ∙ get_or_default met found.0 0 t found.1 ∙ found.2 in
-    let whole : length (take i met) ≡ length met = ap length (take_all i met past) in
-    let found_in : found.0 < length (take i met) = omega (arith, found.1, whole) in
+pub looked_some : (labels numbers visited : List ℕ) (i : ℕ) (list : List Touched) → length numbers ≡ length labels → length visited ≤ i → AreVisited numbers visited → AreLookedAt labels numbers (take i visited) list → AreAllTouched labels numbers list
+looked_some labels numbers visited i list size past are_visited are t t_in some =
+    let found = are_visited t (omega (arith, size, t_in)) some in
+    let at : get_or (take i visited) found.0 0 ≡ t = get_or-take i visited found.0 0 (omega (arith, found.1, past)) ∙ get_or_default visited found.0 0 t found.1 ∙ found.2 in
+    let whole : length (take i visited) ≡ length visited = ap length (take_all i visited past) in
+    let found_in : found.0 < length (take i visited) = omega (arith, found.1, whole) in
     subst (StandsIn list) at (are.all found.0 found_in (subst (λ u. u < length labels) (sym at) t_in) (subst (λ u. get_or numbers u 0 ≢ 0) (sym at) some))
 
-pub looked_all : (labels numbers met : List ℕ) (i : ℕ) (list : List Touched) → length numbers ≡ length labels → length met ≤ i → AreMet numbers met → AreLookedAt labels numbers (take i met) list → AreTouched labels numbers list
-looked_all labels numbers met i list size past are_met are = record {
+pub looked_all : (labels numbers visited : List ℕ) (i : ℕ) (list : List Touched) → length numbers ≡ length labels → length visited ≤ i → AreVisited numbers visited → AreLookedAt labels numbers (take i visited) list → AreTouched labels numbers list
+looked_all labels numbers visited i list size past are_visited are = record {
   each = are.each;
   all = λ s t t_in block number there.
       let some : get_or numbers s 0 ≢ 0 = subst (λ u. get_or numbers u 0 ≢ 0) there.2 (are.some there.0 no_touched there.1) in
-      looked_some labels numbers met i list size past are_met are t t_in (λ none. some (number ∙ none));
+      looked_some labels numbers visited i list size past are_visited are t t_in (λ none. some (number ∙ none));
 }
 
 -- the same states in another order
@@ -191,8 +191,8 @@ keyed_of labels numbers touched small are i lt =
     ap (λ k. k / 2 ^ 64) (are.each i no_touched lt).key ∙ div-mul-add (get_or labels s 0) (2 ^ 64) (get_or numbers s 0) (small s)
 
 -- a state whose number is 0 isn't touched
-pub looked_only : (labels numbers met : List ℕ) (list : List Touched) → AreLookedAt labels numbers met list → (s : ℕ) → get_or numbers s 0 ≡ 0 → StandsIn list s → ⊥
-looked_only labels numbers met list are s none there = are.some there.0 no_touched there.1 (ap (λ u. get_or numbers u 0) there.2 ∙ none)
+pub looked_only : (labels numbers visited : List ℕ) (list : List Touched) → AreLookedAt labels numbers visited list → (s : ℕ) → get_or numbers s 0 ≡ 0 → StandsIn list s → ⊥
+looked_only labels numbers visited list are s none there = are.some there.0 no_touched there.1 (ap (λ u. get_or numbers u 0) there.2 ∙ none)
 
 -- ---- states that are left
 

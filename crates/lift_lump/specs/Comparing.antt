@@ -7,7 +7,7 @@ use Rattle.lift_model.specs.Model.{ModelData, is_goal}
 use Rattle.lift_lump.specs.declared.compared.Compared.{Compared}
 use Rattle.lift_lump.specs.declared.numbered.Numbered.{Numbered}
 use Rattle.lift_lump.specs.Quotient.{Blocks, block, first, quotient_row}
-use Rattle.lift_lump.specs.Search.{number_at, AreMet}
+use Rattle.lift_lump.specs.Search.{number_at, AreVisited}
 
 -- the blocks as lists
 abbrev pub blocks_of : Numbered → Blocks
@@ -52,12 +52,12 @@ pub record AreCompared (m : ModelData) (p : Blocks) (count : ℕ) (numbers diffe
   pub like : (s : ℕ) → s < count → number_at numbers s ≡ 0 → IsLike m p s
   pub other : (s : ℕ) → s < count → IsLike m p s → number_at numbers s ≡ 0
   pub places : (s : ℕ) → number_at numbers s ≤ length texts
-  pub told : (s : ℕ) → number_at numbers s ≢ 0 → slice_index_or texts (number_at numbers s - 1) [] ≡ row_text (quotient_row m p s)
-  pub met : AreMet numbers different
+  pub reported : (s : ℕ) → number_at numbers s ≢ 0 → slice_index_or texts (number_at numbers s - 1) [] ≡ row_text (quotient_row m p s)
+  pub visited : AreVisited numbers different
   pub some : All (λ s. (s < length numbers) × (number_at numbers s ≢ 0)) different
 
 -- a state got a number by its text, and was put into the list
-pub record IsTold (s : ℕ) (text : List ℕ) (old new : Compared) : Type 0 where
+pub record IsNumbered (s : ℕ) (text : List ℕ) (old new : Compared) : Type 0 where
   pub place : ℕ
   pub numbers : new.numbers.items ≡ slice_set old.numbers.items s (place + 1)
   pub inside : place < length new.texts

@@ -81,7 +81,7 @@ pub record IsLookedAt (labels numbers : List ℕ) (s : ℕ) (old new : List Touc
   pub here : s < length labels → slice_index_or numbers s 0 ≢ 0 → StandsIn new s
 
 -- these states were looked at
-pub record AreLookedAt (labels numbers met : List ℕ) (touched : List Touched) : Type 0 where
+pub record AreLookedAt (labels numbers visited : List ℕ) (touched : List Touched) : Type 0 where
   pub each : All (IsTouched labels numbers) touched
   pub some : All (λ (t : Touched). slice_index_or numbers t.state 0 ≢ 0) touched
-  pub all : (k : ℕ) → k < length met → slice_index_or met k 0 < length labels → slice_index_or numbers (slice_index_or met k 0) 0 ≢ 0 → StandsIn touched (slice_index_or met k 0)
+  pub all : (k : ℕ) → k < length visited → slice_index_or visited k 0 < length labels → slice_index_or numbers (slice_index_or visited k 0) 0 ≢ 0 → StandsIn touched (slice_index_or visited k 0)

@@ -55,8 +55,8 @@ pub record AreRaised (old new : List ℕ) (arrows : List Arrow) : Type 0 where
   pub numbers : (s : ℕ) → s < length old → slice_index_or new s 0 ≡ (slice_index_or old s 0 + marks_from s arrows) % modulus
 
 -- each state whose number isn't 0 is in the list
-abbrev pub AreMet : List ℕ → List ℕ → Type 0
-AreMet numbers met = (s : ℕ) → s < length numbers → slice_index_or numbers s 0 ≢ 0 → Contains met s
+abbrev pub AreVisited : List ℕ → List ℕ → Type 0
+AreVisited numbers visited = (s : ℕ) → s < length numbers → slice_index_or numbers s 0 ≢ 0 → Contains visited s
 
 -- the arrows into a state, of the lists of all
 abbrev pub arrows_into : List (List Arrow) → ℕ → List Arrow

@@ -14,13 +14,13 @@ entries_of sums zero = []
 entries_of sums (suc b) = entries_of sums b ++ one_entry b (sum_at sums b)
 
 -- each block whose sum isn't 0 is in the list, and only blocks are
-pub record AreMetBlocks (sums : List (List Term)) (met : List ℕ) : Type 0 where
-  pub some : (b : ℕ) → sum_at sums b ≢ [] → Contains met b
-  pub blocks : All (λ b. b < length sums) met
+pub record AreVisitedBlocks (sums : List (List Term)) (visited : List ℕ) : Type 0 where
+  pub some : (b : ℕ) → sum_at sums b ≢ [] → Contains visited b
+  pub blocks : All (λ b. b < length sums) visited
 
 -- the sums into so many blocks are all 0
 pub record AreNone (blocks : ℕ) (sums : List (List Term)) (list : List ℕ) (poly : List Term) : Type 0 where
   pub count : length sums ≡ blocks
   pub none : (b : ℕ) → sum_at sums b ≡ []
-  pub met : list ≡ []
+  pub visited : list ≡ []
   pub zero : poly ≡ []

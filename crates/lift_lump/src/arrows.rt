@@ -2,7 +2,7 @@
 
 ghost use Rattle.std.specs.Prelude.{◌≡◌, ◌<◌, ◌∷◌, [], ℕ, true, false, All, length, IfOk, OnOk};
 ghost use Rattle.lift_model.specs.Model.{is_goal, row_at};
-ghost use Rattle.lift_lump.specs.Search.{modulus, whole, arrows_into, IsArrow, AreArrows, AreEntered, AreRaised, AreMet};
+ghost use Rattle.lift_lump.specs.Search.{modulus, whole, arrows_into, IsArrow, AreArrows, AreEntered, AreRaised, AreVisited};
 
 use crate::lists::Lists;
 use crate::marks::{MODULUS, mark_of};
@@ -19,16 +19,16 @@ pub struct Arrow {
 }
 
 /// Adds the mark of an arrow to the number of its source, which is noted if its number was 0.
-fn add_mark(numbers: &mut [u64], met: &mut Vec<u32>, arrow: Arrow) -> Result<(), AllocError>
+fn add_mark(numbers: &mut [u64], visited: &mut Vec<u32>, arrow: Arrow) -> Result<(), AllocError>
     requires arrow { IsArrow (length numbers.old) arrow }
     requires below { All (λ n. n < modulus) numbers.old }
     ensures numbers { OnOk result (AreRaised numbers.old numbers.new (arrow ∷ [])) }
-    ensures met { OnOk result (AreMet numbers.old met.old.items → AreMet numbers.new met.new.items) }
+    ensures visited { OnOk result (AreVisited numbers.old visited.old.items → AreVisited numbers.new visited.new.items) }
 {
     let at = arrow.source as usize;
     let number = numbers[at];
     if number == 0 {
-        met.push(arrow.source)?;
+        visited.push(arrow.source)?;
     }
     numbers[at] = (number + arrow.mark) % MODULUS;
     Ok(())
@@ -37,16 +37,16 @@ fn add_mark(numbers: &mut [u64], met: &mut Vec<u32>, arrow: Arrow) -> Result<(),
 /// Adds the marks of arrows to the numbers of their sources. Those whose number was 0 are noted.
 pub(crate) fn add_marks(
     numbers: &mut [u64],
-    met: &mut Vec<u32>,
+    visited: &mut Vec<u32>,
     arrows: &[Arrow],
 ) -> Result<(), AllocError>
     requires arrows { All (IsArrow (length numbers.old)) arrows.now }
     requires below { All (λ n. n < modulus) numbers.old }
     ensures numbers { OnOk result (AreRaised numbers.old numbers.new arrows.now) }
-    ensures met { OnOk result (AreMet numbers.old met.old.items → AreMet numbers.new met.new.items) }
+    ensures visited { OnOk result (AreVisited numbers.old visited.old.items → AreVisited numbers.new visited.new.items) }
 {
     for arrow in arrows {
-        add_mark(numbers, met, *arrow)?;
+        add_mark(numbers, visited, *arrow)?;
     }
     Ok(())
 }

@@ -6,7 +6,7 @@ ghost use Rattle.lift_poly.specs.Polynomial.{constant};
 ghost use Rattle.lift_lump.specs.Quotient.{AreNumbered, quotient, quotient_row};
 ghost use Rattle.lift_lump.specs.Summing.{AreNone};
 ghost use Rattle.lift_names.specs.Names.{names_limit};
-ghost use Rattle.lift_lump.specs.Comparing.{blocks_of, IsLike, IsTold, AreCompared, row_text};
+ghost use Rattle.lift_lump.specs.Comparing.{blocks_of, IsLike, IsNumbered, AreCompared, row_text};
 
 use crate::numbered::Numbered;
 use crate::sums::Sums;
@@ -80,9 +80,9 @@ fn row_of(
 ) -> Result<Vec<Entry>, AllocError>
     requires state { s < length model.now.states }
     requires numbered { AreNumbered (length model.now.states) (blocks_of blocks.now) }
-    requires none { AreNone (length blocks.now.firsts.items) sums.old.of_blocks.items sums.old.met.items sums.old.zero }
+    requires none { AreNone (length blocks.now.firsts.items) sums.old.of_blocks.items sums.old.visited.items sums.old.zero }
     ensures row { IfOk result (λ row. row.items ≡ quotient_row model.now (blocks_of blocks.now) s) }
-    ensures none { OnOk result (AreNone (length blocks.now.firsts.items) sums.new.of_blocks.items sums.new.met.items sums.new.zero) }
+    ensures none { OnOk result (AreNone (length blocks.now.firsts.items) sums.new.of_blocks.items sums.new.visited.items sums.new.zero) }
 {
     let _common = model.common();
     if model.is_goal(s) {
@@ -101,9 +101,9 @@ pub(crate) fn rows_of(
     sums: &mut Sums,
 ) -> Result<Vec<Vec<Row>>, AllocError>
     requires numbered { AreNumbered (length model.now.states) (blocks_of blocks.now) }
-    requires none { AreNone (length blocks.now.firsts.items) sums.old.of_blocks.items sums.old.met.items sums.old.zero }
+    requires none { AreNone (length blocks.now.firsts.items) sums.old.of_blocks.items sums.old.visited.items sums.old.zero }
     ensures rows { IfOk result (λ rows. map (λ v. v.items) rows.items ≡ (quotient model.now (blocks_of blocks.now)).states) }
-    ensures none { OnOk result (AreNone (length blocks.now.firsts.items) sums.new.of_blocks.items sums.new.met.items sums.new.zero) }
+    ensures none { OnOk result (AreNone (length blocks.now.firsts.items) sums.new.of_blocks.items sums.new.visited.items sums.new.zero) }
 {
     let mut rows = Vec::with_capacity(alloc, blocks.firsts.len())?;
     for first in &blocks.firsts {
@@ -141,11 +141,12 @@ fn other_row(
     requires state { s < length model.now.states }
     requires numbered { AreNumbered (length model.now.states) (blocks_of found.now.blocks) }
     requires rows { map (λ v. v.items) found.now.rows.items ≡ (quotient model.now (blocks_of found.now.blocks)).states }
-    requires none { AreNone (length found.now.blocks.firsts.items) sums.old.of_blocks.items sums.old.met.items sums.old.zero }
+    requires none { AreNone (length found.now.blocks.firsts.items) sums.old.of_blocks.items sums.old.visited.items sums.old.zero }
     ensures like { IfOk result (λ other. IfNone other (IsLike model.now (blocks_of found.now.blocks) s)) }
     ensures other { IfOk result (λ other. IfSome other (λ _. IsLike model.now (blocks_of found.now.blocks) s → ⊥)) }
     ensures row { IfOk result (λ other. IfSome other (λ row. row.items ≡ quotient_row model.now (blocks_of found.now.blocks) s)) }
-    ensures none { OnOk result (AreNone (length found.now.blocks.firsts.items) sums.new.of_blocks.items sums.new.met.items sums.new.zero) }
+    ensures none { OnOk result
+        (AreNone (length found.now.blocks.firsts.items) sums.new.of_blocks.items sums.new.visited.items sums.new.zero) }
 {
     let row = row_of(alloc, model, &found.blocks, sums, s)?;
     if differs(model, found, s, &row) {
@@ -159,7 +160,7 @@ impl Compared {
     fn tell(&mut self, alloc: Global, s: u32, row: &[Entry]) -> Result<(), AllocError>
         requires state { s < length self.old.numbers.items }
         requires few { length self.old.texts + 1 < names_limit }
-        ensures { OnOk result (IsTold s (row_text row.now) self.old self.new) }
+        ensures { OnOk result (IsNumbered s (row_text row.now) self.old self.new) }
     {
         let text = text_of(alloc, row)?;
         let place = place_of(&mut self.texts, &text)?;
@@ -173,7 +174,7 @@ impl Compared {
         requires state { s < length self.old.numbers.items }
         requires few { length self.old.texts + 1 < names_limit }
         ensures same { OnOk result (IfNone other.now (self.new ≡ self.old)) }
-        ensures told { OnOk result (IfSome other.now (λ row. IsTold s (row_text row.items) self.old self.new)) }
+        ensures reported { OnOk result (IfSome other.now (λ row. IsNumbered s (row_text row.items) self.old self.new)) }
     {
         match other {
             None => Ok(()),
@@ -190,8 +191,9 @@ impl Compared {
     ) -> Result<Compared, AllocError>
         requires numbered { AreNumbered (length model.now.states) (blocks_of found.now.blocks) }
         requires rows { map (λ v. v.items) found.now.rows.items ≡ (quotient model.now (blocks_of found.now.blocks)).states }
-        requires none { AreNone (length found.now.blocks.firsts.items) sums.old.of_blocks.items sums.old.met.items sums.old.zero }
-        ensures compared { IfOk result (λ c. AreCompared model.now (blocks_of found.now.blocks) (length model.now.states) c.numbers.items c.different.items c.texts) }
+        requires none { AreNone (length found.now.blocks.firsts.items) sums.old.of_blocks.items sums.old.visited.items sums.old.zero }
+        ensures compared { IfOk result (λ c. AreCompared model.now (blocks_of found.now.blocks) (length model.now.states)
+            c.numbers.items c.different.items c.texts) }
         ensures apart { IfOk result (λ c. AllPairs (λ a b. a ≢ b) c.texts) }
     {
         let mut compared = Compared {

@@ -1,7 +1,7 @@
 //! The number of each state's entries into a block.
 
 ghost use Rattle.std.specs.Prelude.{◌≡◌, ◌≤◌, ◌<◌, ◌+◌, ℕ, List, false, length, All, OnOk, slice_index_or};
-ghost use Rattle.lift_lump.specs.Search.{modulus, marked, arrows_into, IsArrow, AreMet, AreMarked, AreNumbersOf, IsCountedIn};
+ghost use Rattle.lift_lump.specs.Search.{modulus, marked, arrows_into, IsArrow, AreVisited, AreMarked, AreNumbersOf, IsCountedIn};
 ghost use Rattle.lift_lump.specs.declared.arrows.Arrow.{Arrow};
 
 use crate::arrows::{Arrow, add_marks};
@@ -17,7 +17,7 @@ fn count_in(
     t: u32,
     marks: &mut [bool],
     numbers: &mut [u64],
-    met: &mut Vec<u32>,
+    visited: &mut Vec<u32>,
 ) -> Result<(), AllocError>
     requires arrows { All (IsArrow (length labels.now)) into.now }
     requires state { t < length labels.now }
@@ -25,14 +25,14 @@ fn count_in(
     requires below { All (λ n. n < modulus) numbers.old }
     ensures counted { OnOk result ((all : ℕ → List Arrow) → all t ≡ into.now
         → IsCountedIn all labels.now block t marks.old marks.new numbers.old numbers.new) }
-    ensures met { OnOk result (AreMet numbers.old met.old.items → AreMet numbers.new met.new.items) }
+    ensures visited { OnOk result (AreVisited numbers.old visited.old.items → AreVisited numbers.new visited.new.items) }
 {
     let at = t as usize;
     if labels[at] != block || marks[at] {
         return Ok(());
     }
     marks[at] = true;
-    add_marks(numbers, met, into)
+    add_marks(numbers, visited, into)
 }
 
 /// Sums the marks of the arrows into a block, whose states are among the members. States of the block are
@@ -44,7 +44,7 @@ pub(crate) fn gather(
     block: u32,
     marks: &mut [bool],
     numbers: &mut [u64],
-    met: &mut Vec<u32>,
+    visited: &mut Vec<u32>,
 ) -> Result<(), AllocError>
     requires count { length arrows.now ≡ length labels.now }
     requires arrows { All (All (IsArrow (length labels.now))) arrows.now }
@@ -56,12 +56,12 @@ pub(crate) fn gather(
     ensures marked { OnOk result (AreMarked labels.now block members.now marks.new) }
     ensures numbers { OnOk result (AreNumbersOf (arrows_into arrows.now) marks.new numbers.new) }
     ensures size { OnOk result (length numbers.new ≡ length labels.now) }
-    ensures met { OnOk result (AreMet numbers.new met.new.items) }
+    ensures visited { OnOk result (AreVisited numbers.new visited.new.items) }
 {
     for t in members {
         let at = *t as usize;
         let into = arrows.list(at);
-        count_in(into, labels, block, *t, marks, numbers, met)?;
+        count_in(into, labels, block, *t, marks, numbers, visited)?;
     }
     Ok(())
 }

@@ -25,7 +25,7 @@ pub fn coarsest_is_one()
     ensures numbered { NumberedSplitsKeep }
     ensures steps { StepsKeep }
     ensures one { CoarsestIsOne }
-    ensures told { EntriesTellSums }
+    ensures reported { EntriesTellSums }
 {
     coefficients_determine();
     weights_follow();

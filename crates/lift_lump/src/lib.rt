@@ -1,4 +1,5 @@
-//! Lumping of chains: states of equal behaviour are taken together.
+//! Lumping of chains (bisimulation minimization): states of equal behaviour are taken together, and the quotient stands
+//! for the chain.
 #![tactic(auto)]
 
 mod arrows;

@@ -44,7 +44,7 @@ impl Numbered {
         requires labels { All (λ l. l < count) labels.now }
         ensures numbered { IfOk result (λ b. AreNumbered (length labels.now)
             (record { of_states = b.of_states.items; firsts = b.firsts.items })) }
-        ensures told { IfOk result (λ b. AreSameBlocks labels.now b.of_states.items) }
+        ensures reported { IfOk result (λ b. AreSameBlocks labels.now b.of_states.items) }
     {
         let mut blocks = Numbered {
             of_states: Vec::with_capacity(alloc, labels.len())?,

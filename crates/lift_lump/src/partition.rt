@@ -361,7 +361,8 @@ fn add_rest_of(
     ensures inside { OnOk result (AreInside part.new.labels.items part.new.sizes.items part.new.members) }
     ensures gathered { OnOk result (AreGathered part.new.labels.items numbers.now part.new.members touched.new.items) }
     ensures members { OnOk result (part.new.members ≡ slice_set part.old.members block []) }
-    ensures only { OnOk result ((t : ℕ) → StandsIn touched.new.items t → StandsIn touched.old.items t ⊎ (number_at part.old.labels.items t ≡ block)) }
+    ensures only { OnOk result ((t : ℕ) → StandsIn touched.new.items t → StandsIn touched.old.items t
+        ⊎ (number_at part.old.labels.items t ≡ block)) }
     ensures same { OnOk result (part.new.labels.items ≡ part.old.labels.items) }
 {
     let states = part.members.take(alloc, block as usize);

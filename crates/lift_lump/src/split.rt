@@ -2,7 +2,7 @@
 //! entries into it.
 
 ghost use Rattle.std.specs.Prelude.{◌≡◌, ◌≢◌, ◌<◌, ◌≤◌, ◌+◌, ◌^◌, ℕ, true, false, length, All, Contains, IfOk, OnOk, slice_index_or};
-ghost use Rattle.lift_lump.specs.Search.{marked, number_at, arrows_into, IsArrow, AreMet, IsByNumber};
+ghost use Rattle.lift_lump.specs.Search.{marked, number_at, arrows_into, IsArrow, AreVisited, IsByNumber};
 ghost use Rattle.lift_lump.specs.Splitting.{AreInside, AreUsed, AreFew, AreListed, AreClear, AreTelling, IsKeptAbove, HaveNone};
 
 use crate::arrows::Arrow;
@@ -21,7 +21,7 @@ pub struct Room {
     /// Whether it is of the block.
     pub marks: Vec<bool>,
     /// The states whose number isn't 0.
-    pub met: Vec<u32>,
+    pub visited: Vec<u32>,
 }
 
 impl Room {
@@ -32,7 +32,7 @@ impl Room {
         Ok(Room {
             numbers: vec![in alloc; 0; states]?,
             marks: vec![in alloc; false; states]?,
-            met: Vec::new(alloc),
+            visited: Vec::new(alloc),
         })
     }
 }
@@ -60,7 +60,7 @@ fn clear_one(numbers: &mut [u64], s: u32)
 
 /// Sets the numbers of these states to 0.
 fn clear(states: &[u32], numbers: &mut [u64])
-    requires states { AreMet numbers.old states.now }
+    requires states { AreVisited numbers.old states.now }
     ensures { (u : ℕ) → number_at numbers.new u ≡ 0 }
 {
     for s in states {
@@ -84,7 +84,7 @@ fn count(
     ensures size { OnOk result (length room.new.numbers.items ≡ length part.now.labels.items) }
     ensures unmarked { OnOk result ((u : ℕ) → marked room.new.marks.items u ≡ false) }
     ensures marks { OnOk result (length room.new.marks.items ≡ length part.now.labels.items) }
-    ensures met { OnOk result (AreMet room.new.numbers.items room.new.met.items) }
+    ensures visited { OnOk result (AreVisited room.new.numbers.items room.new.visited.items) }
     ensures telling { OnOk result (AreTelling (arrows_into arrows.now) part.now.labels.items room.new.numbers.items) }
 {
     coarsest_is_one();
@@ -96,7 +96,7 @@ fn count(
         block,
         &mut room.marks,
         &mut room.numbers,
-        &mut room.met,
+        &mut room.visited,
     )?;
     unmark(states, &mut room.marks);
     Ok(())
@@ -107,10 +107,10 @@ pub(crate) fn split_by(
     alloc: Global,
     part: &mut Partition,
     numbers: &[u64],
-    met: &[u32],
+    visited: &[u32],
 ) -> Result<(), AllocError>
     requires sizes { length numbers.now ≡ length part.old.labels.items }
-    requires met { AreMet numbers.now met.now }
+    requires visited { AreVisited numbers.now visited.now }
     requires states { length part.old.labels.items + 1 < 2 ^ 32 }
     requires inside { AreInside part.old.labels.items part.old.sizes.items part.old.members }
     requires used { AreUsed part.old.labels.items (length part.old.members) }
@@ -124,7 +124,7 @@ pub(crate) fn split_by(
     ensures numbers { OnOk result (IsByNumber (length part.old.labels.items) (λ s. slice_index_or part.old.labels.items s 0)
         numbers.now (λ s. slice_index_or part.new.labels.items s 0)) }
 {
-    let mut touched = touched_of(alloc, &part.labels, numbers, met)?;
+    let mut touched = touched_of(alloc, &part.labels, numbers, visited)?;
     sort(&mut touched);
     add_rests(alloc, &mut touched, part, numbers)?;
     sort(&mut touched);
@@ -138,12 +138,12 @@ pub(crate) fn split_off(
     alloc: Global,
     part: &mut Partition,
     numbers: &[u64],
-    met: &[u32],
+    visited: &[u32],
 ) -> Result<(), AllocError>
     requires sizes { length numbers.now ≡ length part.old.labels.items }
-    requires met { AreMet numbers.now met.now }
-    requires some { 0 < length met.now }
-    requires others { All (λ s. (s < length numbers.now) × (number_at numbers.now s ≢ 0)) met.now }
+    requires visited { AreVisited numbers.now visited.now }
+    requires some { 0 < length visited.now }
+    requires others { All (λ s. (s < length numbers.now) × (number_at numbers.now s ≢ 0)) visited.now }
     requires none { HaveNone part.old.labels.items numbers.now }
     requires states { length part.old.labels.items + 1 < 2 ^ 32 }
     requires inside { AreInside part.old.labels.items part.old.sizes.items part.old.members }
@@ -158,7 +158,7 @@ pub(crate) fn split_off(
     ensures numbers { OnOk result (IsByNumber (length part.old.labels.items) (λ s. slice_index_or part.old.labels.items s 0)
         numbers.now (λ s. slice_index_or part.new.labels.items s 0)) }
 {
-    let mut touched = touched_of(alloc, &part.labels, numbers, met)?;
+    let mut touched = touched_of(alloc, &part.labels, numbers, visited)?;
     sort(&mut touched);
     regroup(alloc, &touched, part)?;
     Ok(())
@@ -190,9 +190,9 @@ fn split(
     ensures kept { OnOk result (IsKeptAbove (arrows_into arrows.now) part.old.labels.items part.new.labels.items) }
 {
     count(arrows, part, block, room)?;
-    split_by(alloc, part, &room.numbers, &room.met)?;
-    clear(&room.met, &mut room.numbers);
-    room.met.clear();
+    split_by(alloc, part, &room.numbers, &room.visited)?;
+    clear(&room.visited, &mut room.numbers);
+    room.visited.clear();
     Ok(())
 }
 

@@ -4,7 +4,7 @@ ghost use Rattle.std.specs.Prelude.{◌≡◌, ◌<◌, ◌^◌, ◌++◌, ◌�
 ghost use Rattle.lift_poly.specs.Arithmetic.{sum};
 ghost use Rattle.lift_lump.specs.Quotient.{one_entry, entries_into};
 ghost use Rattle.lift_lump.specs.Search.{number_at};
-ghost use Rattle.lift_lump.specs.Summing.{AreMetBlocks, AreNone, sum_at, entries_of};
+ghost use Rattle.lift_lump.specs.Summing.{AreVisitedBlocks, AreNone, sum_at, entries_of};
 
 use lift_model::{Entry, SharedPoly};
 use lift_poly::{MultiAffine, coefficients_determine};
@@ -16,7 +16,7 @@ pub struct Sums {
     /// The sum into each block so far.
     pub of_blocks: Vec<SharedPoly>,
     /// The blocks whose sums aren't 0, some perhaps twice.
-    pub met: Vec<u32>,
+    pub visited: Vec<u32>,
     /// The polynomial 0.
     pub zero: SharedPoly,
 }
@@ -54,26 +54,26 @@ fn copies(alloc: Global, poly: &SharedPoly, count: usize) -> Result<Vec<SharedPo
 }
 
 /// Adds a block, if it is met for the first time.
-fn meet(met: &mut Vec<u32>, block: u32, is_first: bool) -> Result<(), AllocError>
-    ensures first { is_first ≡ true → OnOk result (met.new.items ≡ met.old.items ++ block ∷ []) }
-    ensures other { is_first ≡ false → OnOk result (met.new.items ≡ met.old.items) }
+fn meet(visited: &mut Vec<u32>, block: u32, is_first: bool) -> Result<(), AllocError>
+    ensures first { is_first ≡ true → OnOk result (visited.new.items ≡ visited.old.items ++ block ∷ []) }
+    ensures other { is_first ≡ false → OnOk result (visited.new.items ≡ visited.old.items) }
 {
     if !is_first {
         return Ok(());
     }
-    met.push(block)?;
+    visited.push(block)?;
     Ok(())
 }
 
 impl Sums {
     /// No sums, for so many blocks.
     pub(crate) fn new(alloc: Global, blocks: usize) -> Result<Sums, AllocError>
-        ensures { IfOk result (λ s. AreNone blocks s.of_blocks.items s.met.items s.zero) }
+        ensures { IfOk result (λ s. AreNone blocks s.of_blocks.items s.visited.items s.zero) }
     {
         let zero = SharedPoly::new(alloc, MultiAffine::from_vec(Vec::new(alloc)))?;
         Ok(Sums {
             of_blocks: copies(alloc, &zero, blocks)?,
-            met: Vec::new(alloc),
+            visited: Vec::new(alloc),
             zero,
         })
     }
@@ -82,14 +82,14 @@ impl Sums {
     fn add(&mut self, alloc: Global, block: usize, poly: &SharedPoly) -> Result<(), AllocError>
         requires block { block < length self.old.of_blocks.items }
         requires number { block < 2 ^ 32 }
-        requires met { AreMetBlocks self.old.of_blocks.items self.old.met.items }
+        requires visited { AreVisitedBlocks self.old.of_blocks.items self.old.visited.items }
         ensures sums { OnOk result (self.new.of_blocks.items
             ≡ slice_set self.old.of_blocks.items block (sum (sum_at self.old.of_blocks.items block) poly.now)) }
-        ensures met { OnOk result (AreMetBlocks self.new.of_blocks.items self.new.met.items) }
+        ensures visited { OnOk result (AreVisitedBlocks self.new.of_blocks.items self.new.visited.items) }
         ensures zero { self.new.zero ≡ self.old.zero }
     {
         let is_first = self.of_blocks[block].len() == 0;
-        meet(&mut self.met, block as u32, is_first)?;
+        meet(&mut self.visited, block as u32, is_first)?;
         let new = added(alloc, &self.of_blocks[block], poly)?;
         self.of_blocks[block] = new;
         Ok(())
@@ -101,7 +101,7 @@ impl Sums {
         requires zero { self.old.zero ≡ [] }
         ensures sums { OnOk result (self.new.of_blocks.items ≡ slice_set self.old.of_blocks.items block []) }
         ensures entries { OnOk result (entries.new.items ≡ entries.old.items ++ one_entry block (sum_at self.old.of_blocks.items block)) }
-        ensures met { self.new.met.items ≡ self.old.met.items }
+        ensures visited { self.new.visited.items ≡ self.old.visited.items }
         ensures zero { self.new.zero ≡ self.old.zero }
     {
         let zero = self.zero.share()?;
@@ -118,18 +118,19 @@ impl Sums {
 
     /// Takes all sums as entries, by ascending block.
     fn take(&mut self, alloc: Global) -> Result<Vec<Entry>, AllocError>
-        requires met { AreMetBlocks self.old.of_blocks.items self.old.met.items }
+        requires visited { AreVisitedBlocks self.old.of_blocks.items self.old.visited.items }
         requires zero { self.old.zero ≡ [] }
         ensures entries { IfOk result (λ es. es.items ≡ entries_of self.old.of_blocks.items (length self.old.of_blocks.items)) }
-        ensures none { OnOk result (AreNone (length self.old.of_blocks.items) self.new.of_blocks.items self.new.met.items self.new.zero) }
+        ensures none { OnOk result
+            (AreNone (length self.old.of_blocks.items) self.new.of_blocks.items self.new.visited.items self.new.zero) }
     {
-        self.met.sort_unstable();
-        let mut entries = Vec::with_capacity(alloc, self.met.len())?;
-        for i in 0..self.met.len() {
-            let block = self.met[i];
+        self.visited.sort_unstable();
+        let mut entries = Vec::with_capacity(alloc, self.visited.len())?;
+        for i in 0..self.visited.len() {
+            let block = self.visited[i];
             self.take_one(block, &mut entries)?;
         }
-        self.met.clear();
+        self.visited.clear();
         Ok(entries)
     }
 
@@ -140,11 +141,12 @@ impl Sums {
         blocks: &[u32],
         row: &[Entry],
     ) -> Result<Vec<Entry>, AllocError>
-        requires none { AreNone (length self.old.of_blocks.items) self.old.of_blocks.items self.old.met.items self.old.zero }
+        requires none { AreNone (length self.old.of_blocks.items) self.old.of_blocks.items self.old.visited.items self.old.zero }
         requires targets { All (λ entry. entry.target < length blocks.now) row.now }
         requires blocks { All (λ b. b < length self.old.of_blocks.items) blocks.now }
         ensures entries { IfOk result (λ es. es.items ≡ entries_into (number_at blocks.now) row.now (length self.old.of_blocks.items)) }
-        ensures none { OnOk result (AreNone (length self.old.of_blocks.items) self.new.of_blocks.items self.new.met.items self.new.zero) }
+        ensures none { OnOk result
+            (AreNone (length self.old.of_blocks.items) self.new.of_blocks.items self.new.visited.items self.new.zero) }
     {
         coefficients_determine();
         for entry in row {

@@ -1,7 +1,7 @@
 //! The states that entries lead from into a block.
 
 ghost use Rattle.std.specs.Prelude.{◌≡◌, ◌<◌, ◌∷◌, [], ℕ, List, All, length, IfOk, OnOk};
-ghost use Rattle.lift_lump.specs.Search.{AreMet, number_at};
+ghost use Rattle.lift_lump.specs.Search.{AreVisited, number_at};
 ghost use Rattle.lift_lump.specs.Renaming.{AreTouched, AreSortedKeys, IsLookedAt, key_of, AreAllTouched, StandsIn};
 ghost use Rattle.lift_lump.specs.Splitting.{AreAdded, AreGathered};
 
@@ -48,16 +48,16 @@ pub(crate) fn touched_of(
     alloc: Global,
     labels: &[u32],
     numbers: &[u64],
-    met: &[u32],
+    visited: &[u32],
 ) -> Result<Vec<Touched>, AllocError>
     requires sizes { length numbers.now ≡ length labels.now }
-    requires met { AreMet numbers.now met.now }
+    requires visited { AreVisited numbers.now visited.now }
     ensures touched { IfOk result (λ list. AreTouched labels.now numbers.now list.items) }
     ensures all { IfOk result (λ list. AreAllTouched labels.now numbers.now list.items) }
     ensures only { IfOk result (λ list. (s : ℕ) → number_at numbers.now s ≡ 0 → StandsIn list.items s → ⊥) }
 {
-    let mut list = Vec::with_capacity(alloc, met.len())?;
-    for s in met {
+    let mut list = Vec::with_capacity(alloc, visited.len())?;
+    for s in visited {
         touch(&mut list, labels, numbers, *s)?;
     }
     Ok(list)

@@ -1,5 +1,5 @@
 pub mod Sums
-pub mod Picking
+pub mod Choosing
 pub mod Tossing
 pub mod Timing
 pub mod Unions

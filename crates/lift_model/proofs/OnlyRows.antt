@@ -31,15 +31,15 @@ module _ (m : ModelData) (l : LinksData) (places : ArePlaces m l) (s : ℕ) (lt 
   placed : (at : RowPlace) → IsOnlyPlace l.row_starts l.rows s at → IsRowPlace m l.targets l.firsts (row_at m s 0) (place l s 0)
   placed at is = places.places s 0 (record { state = lt; choice = omega (arith, only_choice at is) })
 
-  told : (row : OnlyRow) → IsOnlyRowIn l.row_starts l.rows l.targets s row → IsOnlyRow m l s row
-  told (Single t) (at, (is, (count, (first, other)))) =
+  reported : (row : OnlyRow) → IsOnlyRowIn l.row_starts l.rows l.targets s row → IsOnlyRow m l s row
+  reported (Single t) (at, (is, (count, (first, other)))) =
       let there = rw (place_is at is) at (placed at is) in
       record {
         only = only_choice at is;
         targets = sym there.entries ∙ one_at l.targets at.entries at.count count there.room ∙ ap (λ n. n ∷ []) first;
         other = other;
       }
-  told (Pair p) (at, (is, (count, (first, (second, (one, (two, (weights, corners)))))))) =
+  reported (Pair p) (at, (is, (count, (first, (second, (one, (two, (weights, corners)))))))) =
       let there = rw (place_is at is) at (placed at is) in
       record {
         only = only_choice at is;
@@ -48,10 +48,10 @@ module _ (m : ModelData) (l : LinksData) (places : ArePlaces m l) (s : ℕ) (lt 
         weights = ap (λ (p : RowPlace). p.weights) (place_is at is) ∙ weights;
         corners = ap (λ (p : RowPlace). p.corners) (place_is at is) ∙ corners;
       }
-  told Other is = tt
+  reported Other is = tt
 
-  pub only_row_told : (only : List OnlyRow) → AreOnlyRowsIn l.row_starts l.rows l.targets only → IsOnlyRow m l s (slice_index_or only s Other)
-  only_row_told only are = told (slice_index_or only s Other) (are s)
+  pub only_row_reported : (only : List OnlyRow) → AreOnlyRowsIn l.row_starts l.rows l.targets only → IsOnlyRow m l s (slice_index_or only s Other)
+  only_row_reported only are = reported (slice_index_or only s Other) (are s)
 
 -- ---- one state after another
 

@@ -26,7 +26,7 @@ pick count a plans = toss (whole_weight count a plans)
 pub record Picks (process : Process) (n s : ℕ) (p : Plan) (a : ℕ) (plans : Plans) : Type 0 where
   pub in_range : a < length (process.choices s)
   pub fit : MovesFit (Fits process 1 n) (slice_index_or (process.choices s) a []) plans
-  pub is_pick : p ≡ pick (length (process.choices s)) a plans
+  pub is_choice : p ≡ pick (length (process.choices s)) a plans
 
 -- a plan that picks fits, over 1
 abbrev pub PicksFit : Type 0

@@ -152,7 +152,8 @@ impl Blocks {
     fn is_of(&self, model: &Model, block: usize, row: &Row) -> bool
         requires block { block < length self.now.firsts.items }
         requires rows { AreFirsts model.now self.now.firsts.items }
-        ensures { IsTrue result → polynomials (first_row model.now (slice_index_or self.now.firsts.items block no_first)) ≡ polynomials row.now }
+        ensures { IsTrue result
+            → polynomials (first_row model.now (slice_index_or self.now.firsts.items block no_first)) ≡ polynomials row.now }
     {
         let first = self.firsts[block];
         are_same(model.row(first.state, first.choice), row)

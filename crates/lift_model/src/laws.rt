@@ -7,7 +7,7 @@ ghost use Rattle.lift_model.specs.Tossing.{TossesAreBounded};
 /// Holds the laws of schedulers that don't toss, for who reasons about them: the plans over 1 are
 /// those that pick a choice for each history, and such a plan reaches what its choices reach. It does
 /// nothing.
-pub fn plans_over_one_pick()
+pub fn plans_over_one_choice()
     ensures fits { PicksFit }
     ensures picks { FitsPick }
     ensures reach { PicksReach }

@@ -1,4 +1,5 @@
-//! Markov models: what they are, and what their schedulers reach.
+//! Markov models (parametric Markov chains and decision processes): what they are, and what their schedulers
+//! (strategies, policies) reach.
 #![tactic(auto)]
 
 mod before;
@@ -19,7 +20,7 @@ pub use blocks::FirstRow;
 pub use entry::Entry;
 pub use kind::Kind;
 pub use laws::{
-    fair_plans_reach_one_half, plans_over_one_pick, same_choices_are_memoryless,
+    fair_plans_reach_one_half, plans_over_one_choice, same_choices_are_memoryless,
     tosses_are_bounded, weighted_sums_follow,
 };
 pub use layout::RowPlace;

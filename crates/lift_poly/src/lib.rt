@@ -1,5 +1,5 @@
-//! Polynomials that are affine in each parameter: what they are and weigh, their arithmetic, the
-//! integers as an ordered ring.
+//! Polynomials that are affine in each parameter (multilinear): what they are and weigh, their arithmetic, the integers
+//! as an ordered ring.
 #![tactic(auto)]
 
 mod error;

@@ -1,4 +1,4 @@
-//! Lanes of words in one block of memory, for code that must not run out of memory half way.
+//! Lanes of words in one block of memory (an arena), for code that must not run out of memory half way.
 #![tactic(auto)]
 
 mod laws;

@@ -6,6 +6,6 @@ use Rattle.lift_grid.specs.Tree.{RejectData}
 abbrev pub doubled : ℕ → List ℤ → List ℤ
 doubled s x = map (λ n. n *ℤ pos (2 ^ s)) x
 
--- what a rejecting certificate consists of, with its numbers doubled, s times; its picks, its ranks, e and k stay
+-- what a rejecting certificate consists of, with its numbers doubled, s times; its choices, its ranks, e and k stay
 abbrev pub doubled_data : ℕ → RejectData → RejectData
 doubled_data s r = record r { numbers = doubled s r.numbers }

@@ -1,4 +1,4 @@
-//! Ranges of precisions: what certificates at one precision say of those at others.
+//! Ranges of precisions (of fixed-point numbers): what certificates at one precision say of those at others.
 #![tactic(auto)]
 
 mod laws;

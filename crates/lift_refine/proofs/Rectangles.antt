@@ -33,7 +33,7 @@ module _ (k : CaseData) (root : Spans) (d : ℤ) (depth : ℕ) (spans others : S
     held = λ s r is ranked. let held = h.held s r is ranked in record {
       range = held.range;
       choice = held.choice;
-      is_pick = held.is_pick;
+      is_choice = held.is_choice;
       in_range = held.in_range;
       means = means (row_at k.model s held.choice) (number u.numbers) (number u.numbers s) held.means;
       rates = shares (row_at k.model s held.choice) (some_below u.rank r) (pos (2 ^ u.e)) held.rates;

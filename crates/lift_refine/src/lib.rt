@@ -1,5 +1,5 @@
-//! Trees that go on where another one ends: what holds of the right trees of a case over a finer grid that may be
-//! halved more often.
+//! Trees that go on where another one ends (region refinement, taken up again): what holds of the right trees of a case
+//! over a finer grid that may be halved more often.
 #![tactic(auto)]
 
 mod laws;

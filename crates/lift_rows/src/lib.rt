@@ -1,5 +1,5 @@
-//! Which models are admitted over a rectangle of values for their parameters: those in which each row
-//! is a distribution at every valuation inside, and no number of the engine leaves 128 bits.
+//! Which models are admitted over a rectangle of values for their parameters (well-definedness on a region): those in
+//! which each row is a distribution at every valuation inside, and no number of the engine leaves 128 bits.
 #![tactic(auto)]
 
 mod admission;

@@ -1,5 +1,6 @@
-//! How rectangles are halved on the way down a tree over the root of a case: the sides of each on the way, in a
-//! pool of lanes that was made before; and the walk over that tree, whoever guides it.
+//! How rectangles are halved on the way down a tree over the root of a case (region refinement): the sides of each on
+//! the way, in a pool of lanes that was made before; and the walk (depth first, in preorder) over that tree, whoever
+//! guides it.
 #![tactic(auto)]
 
 mod given;

@@ -19,7 +19,7 @@ use Rattle.line_text.specs.declared.error.TextError.{TextError}
 use Rattle.line_text.specs.Reading.{Cursor, due, fault, is_feed}
 use Rattle.line_text.specs.declared.error.FileError.{FileError}
 use Rattle.line_text.specs.declared.error.FileError.TheVariants as file
-use Rattle.line_text.specs.Follow.{Took, Ran, Follows, IsDue, SeesEnd, place, told_fault}
+use Rattle.line_text.specs.Follow.{Took, Ran, Follows, IsDue, SeesEnd, place, reported_fault}
 
 -- ---- what is due, by what stands at the front
 
@@ -107,9 +107,9 @@ is_due left faults a b s t bytes r none calm is = record {
 pub due_fails : {S : Type 0} (left : S → Option (List ℕ)) (faults : S → ℕ) (a b : LinesData) (s t : S) (bytes : List ℕ) (cause : TextCause) (e : FileError)
     → ReadOn left a b s t bytes → b.failure ≡ None → faults t ≡ faults s
     → ((later : List ℕ) → MayFollow b later → due (b.given + 1, b.held ++ later) ≡ fault (b.given + 1) cause)
-    → e ≡ file.Text (told_fault (record { line = b.given + 1; cause = cause }))
+    → e ≡ file.Text (reported_fault (record { line = b.given + 1; cause = cause }))
     → Follows {X = Unit {0}} left faults (λ _. []) due a b s t (Err e)
-due_fails {S} left faults a b s t bytes cause e r none calm is told = subst (λ (e : FileError). Follows {X = Unit {0}} left faults (λ _. []) due a b s t (Err e)) (sym told) (record {
+due_fails {S} left faults a b s t bytes cause e r none calm is reported = subst (λ (e : FileError). Follows {X = Unit {0}} left faults (λ _. []) due a b s t (Err e)) (sym reported) (record {
   bytes = bytes;
   ran = ran_of left faults a b s t bytes r none calm;
   agrees = λ _ later may. (record { line = b.given + 1; cause = cause }, ap (λ (c : Cursor). due c) (place_is left a b s t bytes later r) ∙ is later may, refl);

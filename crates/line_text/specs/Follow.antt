@@ -17,8 +17,8 @@ use Rattle.line_text.specs.declared.error.FileError.{FileError}
 use Rattle.line_text.specs.declared.error.FileError.TheVariants as file
 
 -- a text's fault, as it is told: the number of a line stays at the last value of its type
-abbrev pub told_fault : TextError → TextError
-told_fault e = record { line = min e.line (2 ^ 32 - 1); cause = e.cause }
+abbrev pub reported_fault : TextError → TextError
+reported_fault e = record { line = min e.line (2 ^ 32 - 1); cause = e.cause }
 
 -- the place where reading goes on, where these bytes follow those that are held
 abbrev pub place : LinesData → List ℕ → Cursor
@@ -38,7 +38,7 @@ abbrev pub Agrees : {X Y : Type 0} → (X → Y) → Reader Y → LinesData → 
 Agrees view read old new bytes (Ok x) =
     (later : List ℕ) → MayFollow new later → read (place old (bytes ++ later)) ≡ Ok (view x, place new later)
 Agrees view read old new bytes (Err (file.Text e)) = e.cause ≢ Memory
-    → (later : List ℕ) → MayFollow new later → (f : TextError) × (read (place old (bytes ++ later)) ≡ Err f) × (e ≡ told_fault f)
+    → (later : List ℕ) → MayFollow new later → (f : TextError) × (read (place old (bytes ++ later)) ≡ Err f) × (e ≡ reported_fault f)
 Agrees view read old new bytes (Err _) = ⊤
 
 -- why no more lines are read, after that answer
@@ -88,7 +88,7 @@ Due left faults old new before after (Err e) = Follows {X = Unit {0}} left fault
 -- what is read of the line at the front: the line is given then, or the cause of a refusal is told of it
 abbrev pub Takes : {X : Type 0} → LinesData → LinesData → Result X TextCause → Result X FileError → Type 0
 Takes old new (Ok x) result = (result ≡ Ok x) × (new ≡ passed old)
-Takes old new (Err cause) result = (result ≡ Err (file.Text (told_fault (record { line = old.given + 1; cause = cause })))) × (new ≡ old)
+Takes old new (Err cause) result = (result ≡ Err (file.Text (reported_fault (record { line = old.given + 1; cause = cause })))) × (new ≡ old)
 
 -- Whether nothing is left was read on for; nothing was given.
 pub record SeesEnd {S : Type 0} (left : S → Option (List ℕ)) (faults : S → ℕ) (old new : LinesData) (before after : S) (none : Bool) : Type 0 where

@@ -3,5 +3,5 @@ pub mod Reading
 pub mod Parts
 pub mod Shown
 pub mod Follow
-pub mod Met
+pub mod Found
 pub mod Laws

@@ -2,7 +2,7 @@
 ghost use Rattle.std.specs.Prelude.{◌≡◌, ◌+◌};
 ghost use Rattle.lift_base.specs.declared.pieces.Front.TheVariants as front;
 ghost use Rattle.lift_base.specs.Lines.{IsFront};
-ghost use Rattle.line_text.specs.Follow.{Due, Ends, Takes, told_fault};
+ghost use Rattle.line_text.specs.Follow.{Due, Ends, Takes, reported_fault};
 ghost use Rattle.line_text.specs.declared.error.FileError.TheVariants as file;
 
 use crate::error::{FileError, TextCause, TextError};
@@ -10,7 +10,7 @@ use lift_base::{Front, LineError, Lines, Source};
 
 /// A fault of the line that is due.
 pub fn fault(lines: &Lines, cause: TextCause) -> FileError
-    ensures { result ≡ file.Text (told_fault (record { line = lines.now.given + 1; cause = cause })) }
+    ensures { result ≡ file.Text (reported_fault (record { line = lines.now.given + 1; cause = cause })) }
 {
     FileError::Text(TextError {
         line: lines.given().saturating_add(1),

@@ -7,7 +7,7 @@ use Rattle.lift_model.specs.Model.{row_at, support, moves_at}
 use Rattle.corner_lift.specs.Corner.{corner, corner_sum, whole, parameter_count}
 use Rattle.corner_lift.specs.Case.{CaseData}
 use Rattle.corner_lift.specs.Case.{number}
-use Rattle.corner_lift.specs.Certificate.{mark, ranked_below, picked_row, IsLower, IsHeld}
+use Rattle.corner_lift.specs.Certificate.{mark, ranked_below, chosen_row, IsLower, IsHeld}
 use Rattle.lower_cert.specs.Capping.{into, out, beyond, filled, IsCapped, HasNoGoal}
 use Rattle.lower_cert.specs.Laws.{CappedIsBelow, CappingKeeps, QuotientCaps, StayingCaps, CapsMore, LevelCaps, CappingKeepsUnder}
 use Rattle.lower_cert.proofs.Means.{Premises, Place, stand, either_way, sum-same, sum-add, sum-times, ones, positive, level, mono, added, scaled, range, held_or_zero, below_mean, below_lower}
@@ -25,22 +25,22 @@ module _ (k : CaseData) (spans : Spans) (inside : ℕ → Bool) (z : ℕ → ℤ
         (λ o. rw o (omega (arith, linear, under t)))
 
     -- a corner at which the mean, with v in the whole set, is below v
-    by_filled : (s : ℕ) → (held : IsHeld k spans y s) → (c : ℕ) → c < 2 ^ parameter_count spans (support (picked_row k y s)) → corner_sum k.d spans (picked_row k y s) c (filled inside v z) <ℤ (v *ℤ whole k.model k.d spans (picked_row k y s)) → number y.numbers s <ℤ (v +ℤ pos n)
+    by_filled : (s : ℕ) → (held : IsHeld k spans y s) → (c : ℕ) → c < 2 ^ parameter_count spans (support (chosen_row k y s)) → corner_sum k.d spans (chosen_row k y s) c (filled inside v z) <ℤ (v *ℤ whole k.model k.d spans (chosen_row k y s)) → number y.numbers s <ℤ (v +ℤ pos n)
     by_filled s held c lt mean =
-        let row = picked_row k y s in
+        let row = chosen_row k y s in
         let a = mark y.picks s in
         let w = whole k.model k.d spans row in
         below_mean k spans place y h s held c lt (λ t. filled inside v z t +ℤ pos n) (v +ℤ pos n) raised
         (omega (arith, linear, mean, added k spans place s a held.pick c (filled inside v z) (λ t. pos n), level k spans place s a held.pick c lt (pos n), add-mul v (pos n) w, mul-comm w (pos n)))
 
     -- a corner at which z's own mean is below v
-    by_mean : (s : ℕ) → (held : IsHeld k spans y s) → (c : ℕ) → c < 2 ^ parameter_count spans (support (picked_row k y s)) → corner_sum k.d spans (picked_row k y s) c z <ℤ (v *ℤ whole k.model k.d spans (picked_row k y s)) → number y.numbers s <ℤ (v +ℤ pos n)
+    by_mean : (s : ℕ) → (held : IsHeld k spans y s) → (c : ℕ) → c < 2 ^ parameter_count spans (support (chosen_row k y s)) → corner_sum k.d spans (chosen_row k y s) c z <ℤ (v *ℤ whole k.model k.d spans (chosen_row k y s)) → number y.numbers s <ℤ (v +ℤ pos n)
     by_mean s held c lt mean = let less = below_mean k spans place y h s held c lt z v under mean in omega (arith, linear, less)
 
     -- a corner at which nothing leaves the set
-    by_out : (s : ℕ) → (held : IsHeld k spans y s) → ((t : ℕ) → mark y.ranks t < mark y.ranks s → inside t ≡ true → number y.numbers t <ℤ (v +ℤ pos n)) → (c : ℕ) → c < 2 ^ parameter_count spans (support (picked_row k y s)) → corner_sum k.d spans (picked_row k y s) c (out inside) ≤ℤ pos 0 → number y.numbers s <ℤ (v +ℤ pos n)
+    by_out : (s : ℕ) → (held : IsHeld k spans y s) → ((t : ℕ) → mark y.ranks t < mark y.ranks s → inside t ≡ true → number y.numbers t <ℤ (v +ℤ pos n)) → (c : ℕ) → c < 2 ^ parameter_count spans (support (chosen_row k y s)) → corner_sum k.d spans (chosen_row k y s) c (out inside) ≤ℤ pos 0 → number y.numbers s <ℤ (v +ℤ pos n)
     by_out s held lower_ones c lt stays =
-        let row = picked_row k y s in
+        let row = chosen_row k y s in
         let a = mark y.picks s in
         let w = whole k.model k.d spans row in
         let m = v +ℤ pos n in

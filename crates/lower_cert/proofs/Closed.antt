@@ -6,7 +6,7 @@ use Rattle.lift_grid.specs.Rectangle.{Spans}
 use Rattle.corner_lift.specs.Corner.{whole}
 use Rattle.corner_lift.specs.Case.{CaseData}
 use Rattle.corner_lift.specs.Case.{number}
-use Rattle.corner_lift.specs.Certificate.{mark, ranked_below, picked_row, IsLower}
+use Rattle.corner_lift.specs.Certificate.{mark, ranked_below, chosen_row, IsLower}
 use Rattle.lower_cert.specs.Capping.{IsClosed, HasNoGoal}
 use Rattle.lower_cert.specs.Laws.{ClosedIsAbove}
 use Rattle.lower_cert.proofs.Means.{Premises, Place, stand, either_way, level, added, range, held_or_zero, below_lower}
@@ -20,7 +20,7 @@ module _ (k : CaseData) (spans : Spans) (inside : ℕ → Bool) (u : ℕ → ℤ
       (λ i. held_or_zero k spans place y h s (no_goal s i)
       (λ held.
       let a = mark y.picks s in
-      let row = picked_row k y s in
+      let row = chosen_row k y s in
       let w = whole k.model k.d spans row in
       let at = closed s a i held.pick in
       let low = ranked_below (mark y.ranks) (mark y.ranks s) in

@@ -9,7 +9,7 @@ use Rattle.lift_model.specs.Model.{is_goal}
 use Rattle.corner_lift.specs.Corner.{whole}
 use Rattle.corner_lift.specs.Case.{CaseData}
 use Rattle.corner_lift.specs.Case.{number}
-use Rattle.corner_lift.specs.Certificate.{mark, picked_row, IsLower}
+use Rattle.corner_lift.specs.Certificate.{mark, chosen_row, IsLower}
 use Rattle.lower_cert.specs.Capping.{IsAboveLowerUnder}
 use Rattle.lower_cert.specs.Laws.{GuessIsAbove, SmallRefutes}
 use Rattle.lower_cert.proofs.Means.{Premises, Place, stand, in_or_past, either_way, level, mono, added, range}
@@ -129,7 +129,7 @@ module _ (k : CaseData) (spans : Spans) (place : Place k spans) (y : RejectData)
     held =
         λ s g lt. let old = h.held s g lt in
         let a = mark y.picks s in
-        let row = picked_row k y s in
+        let row = chosen_row k y s in
         let w = whole k.model k.d spans row in
         record {
           rank = old.rank;

@@ -89,7 +89,7 @@ module _ (case : CaseData) (ss : Spans) (allowed : ℕ → ℕ → Type 0) (pick
   no-next r small same s is =
       either_way (is_goal case.model s)
       (λ g. omega (arith, stages.goal s g, is))
-      (λ g. let p = stages.picked s g (omega (arith, is, small)) in
+      (λ g. let p = stages.chosen s g (omega (arith, is, small)) in
       let leads : LeadsBelow case ss rank (suc r) s (pick s) = subst (λ k. LeadsBelow case ss rank k s (pick s)) is p.leads in
       let less : LeadsBelow case ss rank r s (pick s) = λ c lt. subst (λ z. pos 0 <ℤ z) (sum-same (ranked_below rank (suc r)) (ranked_below rank r) (moves_at (corner case.d ss (support (row_at case.model s (pick s))) c) (row_at case.model s (pick s))) (lower-same r small same)) (leads c lt) in
       let early = stages.first s g (pick s) r p.in_range p.is_allowed (omega (arith, small)) less in

@@ -14,7 +14,7 @@ use Rattle.corner_lift.specs.Case.{CaseData, IsCase, IsInside, number, row_value
 use Rattle.corner_lift.specs.Certificate.{unmarked, mark}
 use Rattle.corner_lift.specs.Laws.{NumbersAreInRange, ParametersAreTheRoots}
 use Rattle.corner_lift.specs.Stages.{IsAllowed}
-use Rattle.lower_cert.specs.Lowering.{IsHigh, IsRanked, AreToldBefore, IsTold, IsStuckLevel, IsLoweredAt, total}
+use Rattle.lower_cert.specs.Lowering.{IsHigh, IsRanked, AreFlaggedBefore, IsFlagged, IsStuckLevel, IsLoweredAt, total}
 use Rattle.lower_cert.specs.Laws.{is_stuck, CappingKeepsUnder, StuckAreCapped}
 use Rattle.lower_cert.proofs.Means.{Place, either_way, level, mono, positive, same_or_less, same_or_not}
 use Rattle.lower_cert.proofs.Stuck.{stuck_parts}
@@ -84,10 +84,10 @@ row_inside [] s a inside = absurd (omega (arith, inside))
 row_inside (x ∷ rows) zero a inside = let now = sum_by-cons length x rows in omega (arith, inside, now)
 row_inside (x ∷ rows) (suc s) a inside = let now = sum_by-cons length x rows in let old = first_more x rows s in omega (arith, now, old, row_inside rows s a inside)
 
-module _ (k : CaseData) (spans : Spans) (x : List ℤ) (allowed : List ℕ) (s a : ℕ) (told : AreToldBefore k spans x allowed s a) where
+module _ (k : CaseData) (spans : Spans) (x : List ℤ) (allowed : List ℕ) (s a : ℕ) (flagged : AreFlaggedBefore k spans x allowed s a) where
   -- the next row is told
-  pub told_next : (v : ℕ) → row_number k.model s a < length allowed → ((nat_lt 0 v ≡ true → IsAllowed k spans (number x) s a) × (IsAllowed k spans (number x) s a → nat_lt 0 v ≡ true)) → AreToldBefore k spans x (set allowed (row_number k.model s a) v) s (a + 1)
-  told_next v room here t b has before =
+  pub flagged_next : (v : ℕ) → row_number k.model s a < length allowed → ((nat_lt 0 v ≡ true → IsAllowed k spans (number x) s a) × (IsAllowed k spans (number x) s a → nat_lt 0 v ≡ true)) → AreFlaggedBefore k spans x (set allowed (row_number k.model s a) v) s (a + 1)
+  flagged_next v room here t b has before =
       ⊎_elim
       (λ (l : t < s). earlier (omega (arith, row_past k.model.states t s b l has.choice)) (inl l))
       (λ (e : (t ≡ s) × (b < a + 1)).
@@ -100,27 +100,27 @@ module _ (k : CaseData) (spans : Spans) (x : List ℤ) (allowed : List ℕ) (s a
       same_state : t ≡ s → b < a → row_number k.model t b < row_number k.model s a
       same_state e l = subst (λ i. row_number k.model t b < row_number k.model i a) e (omega (arith, l))
 
-      earlier : row_number k.model t b < row_number k.model s a → (t < s) ⊎ ((t ≡ s) × (b < a)) → IsTold k spans x (set allowed (row_number k.model s a) v) t b
+      earlier : row_number k.model t b < row_number k.model s a → (t < s) ⊎ ((t ≡ s) × (b < a)) → IsFlagged k spans x (set allowed (row_number k.model s a) v) t b
       earlier less old =
           let ne : row_number k.model t b ≢ row_number k.model s a = grind (arith, less) in
           let same : get_or (set allowed (row_number k.model s a) v) (row_number k.model t b) 0 ≡ get_or allowed (row_number k.model t b) 0 = rw get_or-set_other refl in
-          subst (λ n. (nat_lt 0 n ≡ true → IsAllowed k spans (number x) t b) × (IsAllowed k spans (number x) t b → nat_lt 0 n ≡ true)) (sym same) (told t b has old)
+          subst (λ n. (nat_lt 0 n ≡ true → IsAllowed k spans (number x) t b) × (IsAllowed k spans (number x) t b → nat_lt 0 n ≡ true)) (sym same) (flagged t b has old)
 
-      at_it : t ≡ s → b ≡ a → IsTold k spans x (set allowed (row_number k.model s a) v) t b
+      at_it : t ≡ s → b ≡ a → IsFlagged k spans x (set allowed (row_number k.model s a) v) t b
       at_it e q =
           let same : get_or (set allowed (row_number k.model s a) v) (row_number k.model s a) 0 ≡ v = rw get_or-set_same refl in
-          subst (λ i. IsTold k spans x (set allowed (row_number k.model s a) v) i b) (sym e)
-          (subst (λ j. IsTold k spans x (set allowed (row_number k.model s a) v) s j) (sym q)
+          subst (λ i. IsFlagged k spans x (set allowed (row_number k.model s a) v) i b) (sym e)
+          (subst (λ j. IsFlagged k spans x (set allowed (row_number k.model s a) v) s j) (sym q)
           (subst (λ n. (nat_lt 0 n ≡ true → IsAllowed k spans (number x) s a) × (IsAllowed k spans (number x) s a → nat_lt 0 n ≡ true)) (sym same) here))
 
   -- so are all rows of the state
-  pub told_state : length (choices k.model s) ≤ a → AreToldBefore k spans x allowed (s + 1) 0
-  told_state all t b has before =
+  pub flagged_state : length (choices k.model s) ≤ a → AreFlaggedBefore k spans x allowed (s + 1) 0
+  flagged_state all t b has before =
       ⊎_elim
       (λ (l : t < s + 1).
       ⊎_elim
-      (λ (less : t < s). told t b has (inl less))
-      (λ (e : t ≡ s). told t b has (inr (e, choice_less e)))
+      (λ (less : t < s). flagged t b has (inl less))
+      (λ (e : t ≡ s). flagged t b has (inr (e, choice_less e)))
       (same_or_less t s l))
       (λ (e : (t ≡ s + 1) × (b < 0)). absurd (omega (arith, e.1)))
       before

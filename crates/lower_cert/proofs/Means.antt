@@ -12,7 +12,7 @@ use Rattle.lift_model.specs.Process.{Move, power, weighted_sum}
 use Rattle.lift_model.specs.Model.{ModelData, support, is_goal, choices, row_at, moves_at}
 use Rattle.corner_lift.specs.Corner.{parameter_count, corner, corner_sum, whole}
 use Rattle.corner_lift.specs.Case.{CaseData, IsCase, IsInside, row_whole, number}
-use Rattle.corner_lift.specs.Certificate.{mark, unmarked, ranked_below, picked_row, IsLower, IsHeld}
+use Rattle.corner_lift.specs.Certificate.{mark, unmarked, ranked_below, chosen_row, IsLower, IsHeld}
 use Rattle.corner_lift.specs.Laws.{HasRow}
 pub use Rattle.lower_cert.specs.Premises.{Premises}
 
@@ -131,25 +131,25 @@ module _ (k : CaseData) (spans : Spans) (place : Place k spans) (y : RejectData)
       (λ b. f (h.held s g (ltb-true (mark y.ranks s) unmarked b)))
       (λ b. z (h.unranked s g (ltb-false (mark y.ranks s) unmarked b)).0)
 
-  module _ (s : ℕ) (held : IsHeld k spans y s) (c : ℕ) (lt : c < 2 ^ parameter_count spans (support (picked_row k y s))) where
+  module _ (s : ℕ) (held : IsHeld k spans y s) (c : ℕ) (lt : c < 2 ^ parameter_count spans (support (chosen_row k y s))) where
     -- there is weight into lower ranks
-    pub sinking : pos 0 <ℤ corner_sum k.d spans (picked_row k y s) c (ranked_below (mark y.ranks) (mark y.ranks s))
+    pub sinking : pos 0 <ℤ corner_sum k.d spans (chosen_row k y s) c (ranked_below (mark y.ranks) (mark y.ranks s))
     sinking =
-        let row = picked_row k y s in
+        let row = chosen_row k y s in
         positive_part (corner_sum k.d spans row c (ranked_below (mark y.ranks) (mark y.ranks s))) (whole k.model k.d spans row) (pos (2 ^ y.e)) (omega (arith, linear)) (positive k spans place s (mark y.picks s) held.pick) (held.rates c lt)
 
     -- y is at most f, whose mean there is below v
-    pub below_mean : (f : ℕ → ℤ) (v : ℤ) → ((t : ℕ) → number y.numbers t ≤ℤ f t) → corner_sum k.d spans (picked_row k y s) c f <ℤ (v *ℤ whole k.model k.d spans (picked_row k y s)) → number y.numbers s <ℤ v
+    pub below_mean : (f : ℕ → ℤ) (v : ℤ) → ((t : ℕ) → number y.numbers t ≤ℤ f t) → corner_sum k.d spans (chosen_row k y s) c f <ℤ (v *ℤ whole k.model k.d spans (chosen_row k y s)) → number y.numbers s <ℤ v
     below_mean f v le mean =
-        let row = picked_row k y s in
+        let row = chosen_row k y s in
         let a = mark y.picks s in
         cancel-lt (number y.numbers s) v (whole k.model k.d spans row) (positive k spans place s a held.pick)
         (omega (arith, linear, held.means c lt, mono k spans place s a held.pick c (number y.numbers) f le, mean))
 
     -- y is at most f, and less on lower ranks, and f's mean there is at most v
-    pub below_lower : (f : ℕ → ℤ) (v : ℤ) → ((t : ℕ) → (number y.numbers t +ℤ ranked_below (mark y.ranks) (mark y.ranks s) t) ≤ℤ f t) → corner_sum k.d spans (picked_row k y s) c f ≤ℤ (v *ℤ whole k.model k.d spans (picked_row k y s)) → number y.numbers s <ℤ v
+    pub below_lower : (f : ℕ → ℤ) (v : ℤ) → ((t : ℕ) → (number y.numbers t +ℤ ranked_below (mark y.ranks) (mark y.ranks s) t) ≤ℤ f t) → corner_sum k.d spans (chosen_row k y s) c f ≤ℤ (v *ℤ whole k.model k.d spans (chosen_row k y s)) → number y.numbers s <ℤ v
     below_lower f v le mean =
-        let row = picked_row k y s in
+        let row = chosen_row k y s in
         let a = mark y.picks s in
         let low = ranked_below (mark y.ranks) (mark y.ranks s) in
         cancel-lt (number y.numbers s) v (whole k.model k.d spans row) (positive k spans place s a held.pick)

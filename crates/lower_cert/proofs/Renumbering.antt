@@ -131,20 +131,20 @@ module _ (case : CaseData) (ss : Spans) (u : UnboundedReject) (some : 1 ≤ leng
   chosen false (Some r) None = unmarked
   chosen false (Some r) (Some a) = a
 
-  abbrev new_pick : ℕ → ℕ
-  new_pick s = chosen (is_goal case.model s) (u.rank s) (u.pick s)
+  abbrev new_choice : ℕ → ℕ
+  new_choice s = chosen (is_goal case.model s) (u.rank s) (u.pick s)
 
   abbrev ranks : List ℕ
   ranks = table new 0 (length case.model.states)
 
   abbrev picks : List ℕ
-  picks = table new_pick 0 (length case.model.states)
+  picks = table new_choice 0 (length case.model.states)
 
   marked : (s : ℕ) → s < length case.model.states → mark ranks s ≡ new s
   marked s lt = table-mark new 0 (length case.model.states) s lt ∙ ap new (omega arith)
 
-  picked : (s : ℕ) → s < length case.model.states → mark picks s ≡ new_pick s
-  picked s lt = table-mark new_pick 0 (length case.model.states) s lt ∙ ap new_pick (omega arith)
+  choice_made : (s : ℕ) → s < length case.model.states → mark picks s ≡ new_choice s
+  choice_made s lt = table-mark new_choice 0 (length case.model.states) s lt ∙ ap new_choice (omega arith)
 
   -- the new ranks have the order of the old ones
   order : (s r : ℕ) → is_goal case.model s ≡ false → u.rank s ≡ Some r → (t : ℕ) → t < length case.model.states → ranked_below (mark ranks) (suc (among (is_goal case.model) u.rank r (length case.model.states))) t ≡ some_below u.rank r t
@@ -193,7 +193,7 @@ module _ (case : CaseData) (ss : Spans) (u : UnboundedReject) (some : 1 ≤ leng
   held_at s lt g small (Some r) is =
       let held = h.held s r g is in
       let at : mark ranks s ≡ suc (among (is_goal case.model) u.rank r (length case.model.states)) = marked s lt ∙ ap₂ by g is in
-      let choice : mark picks s ≡ held.choice = picked s lt ∙ rw (g, is, held.is_pick) refl in
+      let choice : mark picks s ≡ held.choice = choice_made s lt ∙ rw (g, is, held.is_choice) refl in
       let off : counts (is_goal case.model s) (u.rank s) r ≡ false = rw (g, is) (below-no r r (omega arith)) in
       let room = among-room (is_goal case.model) u.rank r (length case.model.states) s lt off in
       record {
@@ -212,7 +212,7 @@ module _ (case : CaseData) (ss : Spans) (u : UnboundedReject) (some : 1 ≤ leng
   unranked_at s g large =
       either_way (nat_lt s (length case.model.states))
       (λ e. by_rank (ltb-true s (length case.model.states) e) (u.rank s) refl)
-      (λ e. (number_beyond u.numbers s (omega (arith, ltb-false s (length case.model.states) e, h.numbers.size)), table-beyond new_pick 0 (length case.model.states) s (ltb-false s (length case.model.states) e)))
+      (λ e. (number_beyond u.numbers s (omega (arith, ltb-false s (length case.model.states) e, h.numbers.size)), table-beyond new_choice 0 (length case.model.states) s (ltb-false s (length case.model.states) e)))
     where
       number_beyond : (y : List ℤ) (i : ℕ) → length y ≤ i → number y i ≡ pos 0
       number_beyond [] i le = refl
@@ -220,20 +220,20 @@ module _ (case : CaseData) (ss : Spans) (u : UnboundedReject) (some : 1 ≤ leng
       number_beyond (b ∷ y) (suc i) le = number_beyond y i (omega (arith, le))
 
       by_rank : s < length case.model.states → (o : Option ℕ) → u.rank s ≡ o → (number u.numbers s ≡ pos 0) × (mark picks s ≡ unmarked)
-      by_rank lt None is = ((h.unranked s g is).0, picked s lt ∙ rw (g, is) refl)
+      by_rank lt None is = ((h.unranked s g is).0, choice_made s lt ∙ rw (g, is) refl)
       by_rank lt (Some r) is = absurd (omega (arith, large, marked s lt ∙ ap₂ by g is, few, among-le (is_goal case.model) u.rank r (length case.model.states)))
 
   goal_at : (s : ℕ) → is_goal case.model s ≡ true → (number u.numbers s ≡ pos (2 ^ case.w)) × (mark ranks s ≡ 0) × (mark picks s ≡ unmarked)
   goal_at s g =
       either_way (nat_lt s (length case.model.states))
-      (λ e. let lt = ltb-true s (length case.model.states) e in ((h.goal s g).0, marked s lt ∙ rw g refl, picked s lt ∙ rw g refl))
+      (λ e. let lt = ltb-true s (length case.model.states) e in ((h.goal s g).0, marked s lt ∙ rw g refl, choice_made s lt ∙ rw g refl))
       (λ e. absurd (true≢false (sym g ∙ goal-beyond case.model.goal s (omega (arith, ltb-false s (length case.model.states) e, goals)))))
 
   -- the same vector with few ranks
   pub renumbered : IsLower case ss data_of
   renumbered = record {
     numbers = h.numbers;
-    sizes = (table-length new_pick 0 (length case.model.states), table-length new 0 (length case.model.states));
+    sizes = (table-length new_choice 0 (length case.model.states), table-length new 0 (length case.model.states));
     marks = table-small new 0 (length case.model.states) (λ i. by-small (is_goal case.model i) (u.rank i));
     bounds = (h.bounds.0, some, omega (arith, few));
     goal = goal_at;

@@ -11,25 +11,25 @@ use Rattle.corner_lift.specs.Case.{CaseData, IsCase, number}
 use Rattle.corner_lift.specs.Certificate.{unmarked, mark}
 use Rattle.corner_lift.specs.Laws.{NumbersAreInRange}
 use Rattle.corner_lift.specs.Stages.{IsGreatestLower}
-use Rattle.robust_rank.specs.Rate.{ArePicks, IsLeastRate}
+use Rattle.robust_rank.specs.Rate.{AreChoices, IsLeastRate}
 use Rattle.lower_cert.specs.Lowering.{IsHigh, IsSettled, IsRanked, IsHeight, IsStuckLevel}
 use Rattle.lower_cert.specs.Laws.{StagesAreGreatest}
 use Rattle.lower_cert.proofs.Means.{either_way}
 use Rattle.lower_cert.proofs.Heights.{mark-beyond}
 
 module _ (k : CaseData) (spans : Spans) (x : List ℤ) (picks ranks : List ℕ) (ranked : IsRanked k spans x picks ranks) where
-  -- a state with a pick is no goal state, and has a rank
-  picked : (s : ℕ) → mark picks s < unmarked → (is_goal k.model s ≡ false) × (mark ranks s < unmarked)
-  picked s some =
+  -- a state with a chosen row is no goal state, and has a rank
+  chosen : (s : ℕ) → mark picks s < unmarked → (is_goal k.model s ≡ false) × (mark ranks s < unmarked)
+  chosen s some =
       either_way (is_goal k.model s)
       (λ g. absurd (omega (arith, some, ranked.others s (inl g))))
       (λ g. (g, either_way (nat_lt (mark ranks s) unmarked) (λ e. ltb-true (mark ranks s) unmarked e) (λ e. absurd (omega (arith, some, ranked.others s (inr (ltb-false (mark ranks s) unmarked e)))))))
 
-  pub are_picks : ArePicks k spans ranks picks
-  are_picks = record {
+  pub are_choices : AreChoices k spans ranks picks
+  are_choices = record {
     sizes = (ranked.sizes.1, ranked.sizes.0);
-    in_range = λ s some. let p = picked s some in (ranked.stages.picked s p.0 p.1).in_range;
-    leads = λ s some. let p = picked s some in (ranked.stages.picked s p.0 p.1).leads;
+    in_range = λ s some. let p = chosen s some in (ranked.stages.chosen s p.0 p.1).in_range;
+    leads = λ s some. let p = chosen s some in (ranked.stages.chosen s p.0 p.1).leads;
   }
 
 pub all_marks : (marks : List ℕ) → ((i : ℕ) → get_or marks i 0 ≤ unmarked) → All (λ rank. rank ≤ unmarked) marks
@@ -40,13 +40,13 @@ module _ (greatest : StagesAreGreatest) (ranges : NumbersAreInRange) (k : CaseDa
   abbrev r : RejectData
   r = record { numbers = x; picks = picks; ranks = ranks; e = e; k = h }
 
-  has_pick : (s : ℕ) → is_goal k.model s ≡ false → mark ranks s < unmarked → s < length k.model.states
-  has_pick s g some = either_way (nat_lt s (length k.model.states)) (λ b. ltb-true s (length k.model.states) b) (λ b. absurd (omega (arith, some, mark-beyond ranks s (omega (arith, ltb-false s (length k.model.states) b, settled.ranked.sizes.1)))))
+  has_choice : (s : ℕ) → is_goal k.model s ≡ false → mark ranks s < unmarked → s < length k.model.states
+  has_choice s g some = either_way (nat_lt s (length k.model.states)) (λ b. ltb-true s (length k.model.states) b) (λ b. absurd (omega (arith, some, mark-beyond ranks s (omega (arith, ltb-false s (length k.model.states) b, settled.ranked.sizes.1)))))
 
-  picks_small : (s : ℕ) → is_goal k.model s ≡ false → mark ranks s < unmarked → mark picks s < unmarked
-  picks_small s g some =
-      let few = get_or-le-sum_by length k.model.states s [] (has_pick s g some) in
-      let inside = (settled.ranked.stages.picked s g some).in_range in
+  choices_small : (s : ℕ) → is_goal k.model s ≡ false → mark ranks s < unmarked → mark picks s < unmarked
+  choices_small s g some =
+      let few = get_or-le-sum_by length k.model.states s [] (has_choice s g some) in
+      let inside = (settled.ranked.stages.chosen s g some).in_range in
       omega (arith, few, inside, is.asked.model.choices)
 
   pub is_greatest : IsGreatestLower k spans r
@@ -56,8 +56,8 @@ module _ (greatest : StagesAreGreatest) (ranges : NumbersAreInRange) (k : CaseDa
       (λ s g free. (zero_number s free, settled.ranked.others s (inr free)))
       settled.ranked.stages
       (λ s some. height_most s some)
-      (λ s g some. rate.holds s (has_pick s g some) (picks_small s g some))
-      (λ f all. rate.least f (omega arith) (λ s lt some. let p = picked k spans x picks ranks settled.ranked s some in all s p.0 p.1))
+      (λ s g some. rate.holds s (has_choice s g some) (choices_small s g some))
+      (λ f all. rate.least f (omega arith) (λ s lt some. let p = chosen k spans x picks ranks settled.ranked s some in all s p.0 p.1))
       (λ j positive all. height.least j positive all)
       (λ y lower s. high.above y lower (λ t. (ranges k y.numbers t lower.numbers).1) s)
     where

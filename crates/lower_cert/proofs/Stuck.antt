@@ -83,7 +83,7 @@ stages_are_greatest k spans r numbers sizes marks bounds goals rest stages small
     bounds = bounds;
     goal = λ s g. ((goals s g).0, stages.goal s g, (goals s g).1);
     unranked = rest;
-    held = λ s g lt. let p = stages.picked s g lt in record { rank = (p.later, small s lt); pick = p.in_range; means = p.is_allowed; rates = rates s g lt };
+    held = λ s g lt. let p = stages.chosen s g lt in record { rank = (p.later, small s lt); pick = p.in_range; means = p.is_allowed; rates = rates s g lt };
   };
   greatest = above;
   stages = stages;

@@ -8,7 +8,7 @@ use Rattle.corner_lift.specs.Case.{CaseData, IsCase, number}
 use Rattle.corner_lift.specs.Certificate.{most_rate, AreNumbers, MeansAtLeast, IsLower}
 use Rattle.corner_lift.specs.Stages.{IsGreatestLower}
 
--- what a rejecting certificate consists of whose ranks have no bound: a number for each state, a pick and a rank for those that have one, a rate and a height
+-- what a rejecting certificate consists of whose ranks have no bound: a number for each state, a chosen row and a rank for those that have one, a rate and a height
 pub record UnboundedReject : Type 0 where
   pub numbers : List ℤ
   pub pick : ℕ → Option ℕ
@@ -20,16 +20,16 @@ pub record UnboundedReject : Type 0 where
 abbrev pub some_below : (ℕ → Option ℕ) → ℕ → ℕ → ℤ
 some_below rank r s = elim (rank s) [ Some n ↦ if nat_lt n r then pos 1 else pos 0 | None ↦ pos 0 ]
 
--- The pick of a state of rank r holds it: at each corner of the row the weighted mean is at least the state's number, and the weight into states of lower rank is enough.
+-- The chosen row of a state of rank r holds it: at each corner of the row the weighted mean is at least the state's number, and the weight into states of lower rank is enough.
 pub record IsHeldAtRank (k : CaseData) (spans : Spans) (u : UnboundedReject) (r s : ℕ) : Type 0 where
   pub range : (1 ≤ r) × (r ≤ u.k)
   pub choice : ℕ
-  pub is_pick : u.pick s ≡ Some choice
+  pub is_choice : u.pick s ≡ Some choice
   pub in_range : choice < length (choices k.model s)
   pub means : MeansAtLeast k spans (row_at k.model s choice) (number u.numbers) (number u.numbers s)
   pub rates : let row = row_at k.model s choice in AtCorners spans row (λ c. whole k.model k.d spans row ≤ℤ (corner_sum k.d spans row c (some_below u.rank r) *ℤ pos (2 ^ u.e)))
 
--- a lower vector, whatever its height: 2 ^ w on goal states, whose rank is 0; 0 on states without rank; and each other state is held by its pick
+-- a lower vector, whatever its height: 2 ^ w on goal states, whose rank is 0; 0 on states without rank; and each other state is held by its chosen row
 pub record IsUnboundedLower (k : CaseData) (spans : Spans) (u : UnboundedReject) : Type 0 where
   pub numbers : AreNumbers k u.numbers
   pub bounds : (u.e ≤ most_rate) × (1 ≤ u.k)

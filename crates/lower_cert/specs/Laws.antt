@@ -66,7 +66,7 @@ StuckAreCapped = (k : CaseData) (spans : Spans) (z : ℕ → ℤ) (v : ℤ) (pic
     → ((s : ℕ) → is_stuck k rank s ≡ true → z s ≤ℤ v)
     → IsCapped k spans (is_stuck k rank) z v
 
--- a vector at or above every lower vector, of whose states without rank none has a number above 0, is the greatest with the ranks and picks of its stages
+-- a vector at or above every lower vector, of whose states without rank none has a number above 0, is the greatest with the ranks and choices of its stages
 abbrev pub StagesAreGreatest : Type 0
 StagesAreGreatest = (k : CaseData) (spans : Spans) (r : RejectData) → AreNumbers k r.numbers
     → (length r.picks ≡ length k.model.states) × (length r.ranks ≡ length k.model.states)

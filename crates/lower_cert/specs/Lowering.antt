@@ -10,7 +10,7 @@ use Rattle.corner_lift.specs.Table.{IsTable}
 use Rattle.corner_lift.specs.Lifted.{LiftedData, IsLiftedTo}
 use Rattle.lower_cert.specs.Capping.{AtSomeCorner, CapsAt, IsAboveLowerUnder}
 use Rattle.robust_rank.specs.Attracting.{Pass}
-use Rattle.robust_rank.specs.Staging.{allows, OthersHaveNoPick}
+use Rattle.robust_rank.specs.Staging.{allows, OthersHaveNoChoice}
 
 -- the links are those of the case's model, the weights are the table of a rectangle, and there is one number for each state
 pub record IsRead (k : CaseData) (l : LinksData) (spans : Spans) (weights lane : List ℤ) : Type 0 where
@@ -18,11 +18,11 @@ pub record IsRead (k : CaseData) (l : LinksData) (spans : Spans) (weights lane :
   pub table : IsTable k l spans weights
   pub size : length lane ≡ length k.model.states
 
--- there is a place for each row, and a rank and a pick for each state
-pub record HasPlaces (k : CaseData) (rows ranks_at picks_at : List ℕ) : Type 0 where
+-- there is a place for each row, and a rank and a chosen row for each state
+pub record HasPlaces (k : CaseData) (rows ranks_at choices_at : List ℕ) : Type 0 where
   pub allowed : length rows ≡ row_count k.model
   pub ranks : length ranks_at ≡ length k.model.states
-  pub picks : length picks_at ≡ length k.model.states
+  pub picks : length choices_at ≡ length k.model.states
 
 -- where a vector is lowered: on which rectangle, and under which numbers
 pub record Run : Type 0 where
@@ -47,19 +47,19 @@ pub record IsHighUnder (k : CaseData) (run : Run) (x : List ℤ) : Type 0 where
 abbrev pub IsHigh : CaseData → Spans → List ℤ → Type 0
 IsHigh k spans x = IsHighUnder k (from_top k spans) x
 
--- the ranks and picks are those of the vector's stages
+-- the ranks and choices are those of the vector's stages
 pub record IsRanked (k : CaseData) (spans : Spans) (x : List ℤ) (picks ranks : List ℕ) : Type 0 where
   pub sizes : (length picks ≡ length k.model.states) × (length ranks ≡ length k.model.states)
   pub stages : AreStages k spans (IsAllowed k spans (number x)) (mark picks) (mark ranks)
-  pub others : OthersHaveNoPick k picks ranks
+  pub others : OthersHaveNoChoice k picks ranks
 
 -- the row's place tells whether its choice is allowed
-abbrev pub IsTold : CaseData → Spans → List ℤ → List ℕ → ℕ → ℕ → Type 0
-IsTold k spans x allowed s a = (Pass (allows k.model allowed) s a → IsAllowed k spans (number x) s a) × (IsAllowed k spans (number x) s a → Pass (allows k.model allowed) s a)
+abbrev pub IsFlagged : CaseData → Spans → List ℤ → List ℕ → ℕ → ℕ → Type 0
+IsFlagged k spans x allowed s a = (Pass (allows k.model allowed) s a → IsAllowed k spans (number x) s a) × (IsAllowed k spans (number x) s a → Pass (allows k.model allowed) s a)
 
 -- so it is for all rows before the state's choice, in reading order
-abbrev pub AreToldBefore : CaseData → Spans → List ℤ → List ℕ → ℕ → ℕ → Type 0
-AreToldBefore k spans x allowed s a = (t b : ℕ) → HasChoice k.model t b → (t < s) ⊎ ((t ≡ s) × (b < a)) → IsTold k spans x allowed t b
+abbrev pub AreFlaggedBefore : CaseData → Spans → List ℤ → List ℕ → ℕ → ℕ → Type 0
+AreFlaggedBefore k spans x allowed s a = (t b : ℕ) → HasChoice k.model t b → (t < s) ⊎ ((t ≡ s) × (b < a)) → IsFlagged k spans x allowed t b
 
 -- the greatest number above 0 of the first states, so many, without rank, or 0
 pub record IsStuckLevel (x : List ℤ) (ranks : List ℕ) (count : ℕ) (v : ℤ) : Type 0 where
@@ -78,7 +78,7 @@ abbrev pub total : List ℤ → ℕ
 total [] = 0
 total (n ∷ x) = nat_abs n + total x
 
--- a high vector with its ranks and picks, of whose states without rank none has a number above 0
+-- a high vector with its ranks and choices, of whose states without rank none has a number above 0
 pub record IsSettled (k : CaseData) (spans : Spans) (x : List ℤ) (picks ranks : List ℕ) : Type 0 where
   pub ranked : IsRanked k spans x picks ranks
   pub none : (s : ℕ) → unmarked ≤ mark ranks s → number x s ≤ℤ pos 0

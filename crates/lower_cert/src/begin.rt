@@ -18,7 +18,7 @@ use crate::steering::Patience;
 use crate::sweep::{component_end, is_alone, pass, visit, visit_alone};
 use corner_lift::{Lifted, rows_at_corners};
 use float_guess::{
-    Ends, Extreme, HELD_STATES, Note, Rounding, Rule, Way, guess_part, lessen_share,
+    Ends, Extreme, HELD_STATES, Method, Note, Rounding, Rule, guess_part, lessen_share,
     make_shares_whole,
 };
 
@@ -209,7 +209,7 @@ impl Guessed {
 #[derive(Clone, Copy)]
 struct Guess {
     /// Whether it is moved.
-    way: Way,
+    method: Method,
     /// In how many passes at most it lowers a part.
     passes: u32,
     /// For how many states behind one that doesn't fall the share is made less too.
@@ -220,7 +220,7 @@ impl Guess {
     /// One that isn't moved.
     fn unmoved(passes: u32) -> Guess {
         Guess {
-            way: Way::Elimination,
+            method: Method::Elimination,
             passes,
             spread: 0,
         }
@@ -262,7 +262,7 @@ fn lower_from_guess(
         noted,
         part.low,
         part.high,
-        guess.way,
+        guess.method,
     );
     flag_part(flags, part);
     if !guessed {
@@ -392,7 +392,7 @@ impl Descent<'_> {
         let mut spread: u32 = 0;
         for _ in 0..GUESSES {
             let guess = Guess {
-                way: Way::MovedElimination,
+                method: Method::MovedElimination,
                 passes: GUESS_PASSES.saturating_add(SPREAD_PASSES.saturating_mul(spread)),
                 spread,
             };

@@ -1,4 +1,4 @@
-//! The greatest lower vector of a rectangle, with its ranks and picks.
+//! The greatest lower vector of a rectangle, with its ranks and choices.
 
 ghost use Rattle.std.specs.Prelude.{◌≡◌, ◌*◌, ◌<◌, ◌≤◌, ◌<ℤ◌, ◌↔◌, length, All, IsTrue, IsFalse, IsNone, IfSome};
 ghost use Rattle.lift_grid.specs.Rectangle.{Spans};
@@ -18,7 +18,7 @@ use corner_lift::{Case, Lifted, rows_at_corners};
 use lift_model::Links;
 use robust_rank::rate;
 
-/// The rate of the picks, and the greatest rank.
+/// The rate of the choices, and the greatest rank.
 #[derive(Clone, Copy)]
 pub struct Rate {
     pub e: u32,
@@ -39,7 +39,7 @@ fn height(ranks: &[u32]) -> u32
     height
 }
 
-/// The least rate and height that the ranks and picks of a settled vector allow.
+/// The least rate and height that the ranks and choices of a settled vector allow.
 fn rate_of(rows: &Lifted, lane: &[i64], ranks: &[u32], picks: &[u32]) -> Rate
     ghost spans: { Spans }
     requires table { IsLiftedTo rows.now spans }
@@ -159,7 +159,7 @@ impl Descent<'_> {
 }
 
 /// Leaves in `lane`, `ranks` and `picks` the greatest lower vector of the case on the rectangle whose table
-/// `weights` is, with the ranks and picks of its stages, and gives the least rate and height that these
+/// `weights` is, with the ranks and choices of its stages, and gives the least rate and height that these
 /// allow. What `lane`, `allowed`, `ranks`, `picks` and `work` hold at entry is free. Takes no memory.
 pub fn greatest_reject(
     case: &Case,

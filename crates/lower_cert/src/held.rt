@@ -21,7 +21,7 @@ use crate::raise::within;
 use crate::steering::{DEEPEST, Patience, Steering};
 use crate::sweep::{turn, visit};
 use corner_lift::{Lifted, rows_at_corners};
-use float_guess::{Among, Ends, Extreme, HELD_STATES, Rule, most_met, worth_by};
+use float_guess::{Among, Ends, Extreme, HELD_STATES, Rule, most_visited, worth_by};
 
 /// What the numbers of states are made of: the best choice, at its worst corner.
 const RULE: Rule<'static> = Rule {
@@ -313,7 +313,7 @@ impl Descent<'_> {
             high: part.high,
             held: &outer,
         };
-        let position = most_met(self.rows, RULE, lane, among)?;
+        let position = most_visited(self.rows, RULE, lane, among)?;
         if position < part.low || part.high <= position {
             return None;
         }
@@ -439,7 +439,8 @@ impl Descent<'_> {
         requires work { search.old.held.part.high ≤ length work.old }
         ensures held { search.new.held ≡ search.old.held }
         ensures search { IsSearch self.now.rows.now.case self.now.rows.now.links run search.new }
-        ensures kept { KeepsOthers self.now.rows.now.case self.now.rows.now.links search.old.held.part.low search.old.held.part.high lane.old lane.new }
+        ensures kept { KeepsOthers self.now.rows.now.case self.now.rows.now.links search.old.held.part.low search.old.held.part.high
+            lane.old lane.new }
     {
         vectors_are_lowered();
         rows_at_corners();
@@ -481,11 +482,13 @@ impl Descent<'_> {
         ghost run: { Run }
         requires table { IsLiftedTo self.now.rows.now run.spans }
         requires search { IsSearch self.now.rows.now.case self.now.rows.now.links run search.old }
-        requires beyond { IsHighBeyond self.now.rows.now.case self.now.rows.now.links run search.old.held.part.low search.old.held.part.high lane.old }
+        requires beyond { IsHighBeyond self.now.rows.now.case self.now.rows.now.links run search.old.held.part.low
+            search.old.held.part.high lane.old }
         requires work { search.old.held.part.high ≤ length work.old }
         ensures held { search.new.held ≡ search.old.held }
         ensures search { IsSearch self.now.rows.now.case self.now.rows.now.links run search.new }
-        ensures kept { KeepsOthers self.now.rows.now.case self.now.rows.now.links search.old.held.part.low search.old.held.part.high lane.old lane.new }
+        ensures kept { KeepsOthers self.now.rows.now.case self.now.rows.now.links search.old.held.part.low search.old.held.part.high
+            lane.old lane.new }
     {
         search_by!(self, lane, work, search, fall_alone)
     }
@@ -513,11 +516,13 @@ impl Descent<'_> {
         ghost run: { Run }
         requires table { IsLiftedTo self.now.rows.now run.spans }
         requires search { IsSearch self.now.rows.now.case self.now.rows.now.links run search.old }
-        requires beyond { IsHighBeyond self.now.rows.now.case self.now.rows.now.links run search.old.held.part.low search.old.held.part.high lane.old }
+        requires beyond { IsHighBeyond self.now.rows.now.case self.now.rows.now.links run search.old.held.part.low
+            search.old.held.part.high lane.old }
         requires work { search.old.held.part.high ≤ length work.old }
         ensures held { search.new.held ≡ search.old.held }
         ensures search { IsSearch self.now.rows.now.case self.now.rows.now.links run search.new }
-        ensures kept { KeepsOthers self.now.rows.now.case self.now.rows.now.links search.old.held.part.low search.old.held.part.high lane.old lane.new }
+        ensures kept { KeepsOthers self.now.rows.now.case self.now.rows.now.links search.old.held.part.low search.old.held.part.high
+            lane.old lane.new }
     {
         search_by!(self, lane, work, search, fall_beside_three)
     }
@@ -545,11 +550,13 @@ impl Descent<'_> {
         ghost run: { Run }
         requires table { IsLiftedTo self.now.rows.now run.spans }
         requires search { IsSearch self.now.rows.now.case self.now.rows.now.links run search.old }
-        requires beyond { IsHighBeyond self.now.rows.now.case self.now.rows.now.links run search.old.held.part.low search.old.held.part.high lane.old }
+        requires beyond { IsHighBeyond self.now.rows.now.case self.now.rows.now.links run search.old.held.part.low
+            search.old.held.part.high lane.old }
         requires work { search.old.held.part.high ≤ length work.old }
         ensures held { search.new.held ≡ search.old.held }
         ensures search { IsSearch self.now.rows.now.case self.now.rows.now.links run search.new }
-        ensures kept { KeepsOthers self.now.rows.now.case self.now.rows.now.links search.old.held.part.low search.old.held.part.high lane.old lane.new }
+        ensures kept { KeepsOthers self.now.rows.now.case self.now.rows.now.links search.old.held.part.low search.old.held.part.high
+            lane.old lane.new }
     {
         search_by!(self, lane, work, search, fall_beside_two)
     }
@@ -577,11 +584,13 @@ impl Descent<'_> {
         ghost run: { Run }
         requires table { IsLiftedTo self.now.rows.now run.spans }
         requires search { IsSearch self.now.rows.now.case self.now.rows.now.links run search.old }
-        requires beyond { IsHighBeyond self.now.rows.now.case self.now.rows.now.links run search.old.held.part.low search.old.held.part.high lane.old }
+        requires beyond { IsHighBeyond self.now.rows.now.case self.now.rows.now.links run search.old.held.part.low
+            search.old.held.part.high lane.old }
         requires work { search.old.held.part.high ≤ length work.old }
         ensures held { search.new.held ≡ search.old.held }
         ensures search { IsSearch self.now.rows.now.case self.now.rows.now.links run search.new }
-        ensures kept { KeepsOthers self.now.rows.now.case self.now.rows.now.links search.old.held.part.low search.old.held.part.high lane.old lane.new }
+        ensures kept { KeepsOthers self.now.rows.now.case self.now.rows.now.links search.old.held.part.low search.old.held.part.high
+            lane.old lane.new }
     {
         search_by!(self, lane, work, search, fall_beside_one)
     }

@@ -1,4 +1,5 @@
-//! Greatest lower vectors of rectangles: the laws of finding one.
+//! Greatest lower vectors of rectangles (the greatest inductive lower bounds, by value iteration from above): the laws
+//! of finding one.
 #![tactic(auto)]
 
 mod begin;

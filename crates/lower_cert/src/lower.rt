@@ -9,14 +9,14 @@ ghost use Rattle.corner_lift.specs.Case.{IsInside, corner_count, engine_limit, n
 ghost use Rattle.corner_lift.specs.Lifted.{IsLiftedTo};
 ghost use Rattle.corner_lift.specs.Certificate.{AreNumbers, mark, unmarked};
 ghost use Rattle.corner_lift.specs.Stages.{IsAllowed};
-ghost use Rattle.lower_cert.specs.Lowering.{HasPlaces, IsHigh, IsRanked, AreToldBefore, IsStuckLevel, IsLoweredAt, total};
+ghost use Rattle.lower_cert.specs.Lowering.{HasPlaces, IsHigh, IsRanked, AreFlaggedBefore, IsStuckLevel, IsLoweredAt, total};
 
 use crate::laws::{premises, vectors_are_lowered};
 use corner_lift::{LaneSum, Lifted, rows_at_corners};
 use lift_model::{OnlyRow, PairRow};
 use robust_rank::{attract, ranks_go_by_stages};
 
-/// In place of a rank or of a pick where a state has none.
+/// In place of a rank or of a chosen row where a state has none.
 pub(crate) const NONE: u32 = u32::MAX;
 
 /// Writes 1 for each state.
@@ -151,8 +151,8 @@ fn allow_choices(rows: &Lifted, lane: &[i64], s: u32, allowed: &mut [u32])
     requires numbers { AreNumbers rows.now.case lane.now }
     requires state { s < length rows.now.case.model.states }
     requires places { length allowed.old ≡ row_count rows.now.case.model }
-    requires told { AreToldBefore rows.now.case spans lane.now allowed.old s 0 }
-    ensures told { AreToldBefore rows.now.case spans lane.now allowed.new (s + 1) 0 }
+    requires flagged { AreFlaggedBefore rows.now.case spans lane.now allowed.old s 0 }
+    ensures flagged { AreFlaggedBefore rows.now.case spans lane.now allowed.new (s + 1) 0 }
 {
     for a in 0..rows.choice_count(s) {
         let row = rows.row_place(s, a);
@@ -168,8 +168,8 @@ fn allow_state(rows: &Lifted, lane: &[i64], s: u32, allowed: &mut [u32])
     requires numbers { AreNumbers rows.now.case lane.now }
     requires state { s < length rows.now.case.model.states }
     requires places { length allowed.old ≡ row_count rows.now.case.model }
-    requires told { AreToldBefore rows.now.case spans lane.now allowed.old s 0 }
-    ensures told { AreToldBefore rows.now.case spans lane.now allowed.new (s + 1) 0 }
+    requires flagged { AreFlaggedBefore rows.now.case spans lane.now allowed.old s 0 }
+    ensures flagged { AreFlaggedBefore rows.now.case spans lane.now allowed.new (s + 1) 0 }
 {
     if let Some(yes) = only_holds(rows, lane, s) {
         allowed[rows.row_place(s, 0)] = flag(yes);
@@ -185,7 +185,7 @@ fn allow(rows: &Lifted, lane: &[i64], allowed: &mut [u32])
     requires table { IsLiftedTo rows.now spans }
     requires numbers { AreNumbers rows.now.case lane.now }
     requires places { length allowed.old ≡ row_count rows.now.case.model }
-    ensures told { AreToldBefore rows.now.case spans lane.now allowed.new (length rows.now.case.model.states) 0 }
+    ensures flagged { AreFlaggedBefore rows.now.case spans lane.now allowed.new (length rows.now.case.model.states) 0 }
 {
     for s in 0..rows.model().states() {
         allow_state(rows, lane, s, allowed);

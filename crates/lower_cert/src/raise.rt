@@ -258,25 +258,30 @@ struct Moves {
     /// How far one rose at most.
     rise: i64,
     /// How far they moved together, up or down.
-    way: i64,
+    distance: i64,
 }
 
 impl Moves {
     /// Not at all.
-    const NONE: Moves = Moves { rise: 0, way: 0 };
+    const NONE: Moves = Moves {
+        rise: 0,
+        distance: 0,
+    };
 
     /// With a step of one state.
     fn then(self, step: i64) -> Moves {
         Moves {
             rise: greater(self.rise, step),
-            way: self.way.saturating_add(greater(step, step.wrapping_neg())),
+            distance: self
+                .distance
+                .saturating_add(greater(step, step.wrapping_neg())),
         }
     }
 
     /// Whether so many states are at rest, but for the slack.
     fn are_at_rest(self, states: u32, slack: i64) -> bool {
         let slack = greater(slack, 1);
-        self.rise <= slack && self.way <= slack.saturating_mul(i64::from(states))
+        self.rise <= slack && self.distance <= slack.saturating_mul(i64::from(states))
     }
 }
 
@@ -322,15 +327,15 @@ fn sweeps(rows: &Lifted, lane: &mut [i64], part: Part, count: u32, slack: i64) -
     requires part { part.high ≤ length rows.now.links.order }
     ensures { KeepsOthers rows.now.case rows.now.links part.low part.high lane.old lane.new }
 {
-    let mut way: i64 = 0;
+    let mut distance: i64 = 0;
     for _ in 0..count {
         let moves = sweep(rows, lane, part, slack);
         if moves.are_at_rest(part.len(), slack) {
             return None;
         }
-        way = way.saturating_add(moves.way);
+        distance = distance.saturating_add(moves.distance);
     }
-    Some(way)
+    Some(distance)
 }
 
 /// How far the state at a position moved since its number was noted, if by less than 2 to the 27.

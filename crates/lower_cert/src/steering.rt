@@ -51,7 +51,7 @@ struct Move {
 #[derive(Clone, Copy)]
 struct Nest {
     alone: u32,
-    way: i64,
+    distance: i64,
 }
 
 /// How the next number is chosen. Nothing is promised of it.
@@ -100,7 +100,7 @@ impl Steering {
             depth: 0,
             nests: [Nest {
                 alone: ALONE.saturating_mul(part.len()),
-                way: 0,
+                distance: 0,
             }; DEEPEST],
         }
     }
@@ -111,7 +111,7 @@ impl Steering {
             Some(nest) => *nest,
             None => Nest {
                 alone: u32::MAX,
-                way: 0,
+                distance: 0,
             },
         }
     }
@@ -119,7 +119,7 @@ impl Steering {
     /// For a state that is held beside another one, which was steered so far.
     pub(crate) fn inner(&self, part: Part, number: i64) -> Steering {
         Steering {
-            step: FIRST_STEP.max(self.nest().way / 2),
+            step: FIRST_STEP.max(self.nest().distance / 2),
             visits: self.visits,
             depth: self.depth.saturating_add(1),
             nests: self.nests,
@@ -134,7 +134,7 @@ impl Steering {
         if let Some(nest) = self.nests.get_mut(self.depth) {
             *nest = Nest {
                 alone: inner.visits.saturating_sub(self.visits).max(fewest),
-                way: number.saturating_sub(inner.above.number).max(0),
+                distance: number.saturating_sub(inner.above.number).max(0),
             };
         }
         self.visits = inner.visits;
@@ -199,8 +199,8 @@ impl Steering {
             return low.saturating_add(width / 2);
         }
         let share = nearest_i64_to_f64(self.above.by) / nearest_i64_to_f64(moves);
-        let way = nearest_i64_to_f64(self.above.number.saturating_sub(low));
-        let down = saturating_f64_to_i64(way * share);
+        let distance = nearest_i64_to_f64(self.above.number.saturating_sub(low));
+        let down = saturating_f64_to_i64(distance * share);
         let next = self.above.number.saturating_sub(down);
         next.max(low.saturating_add(1))
             .min(number.saturating_sub(1))

@@ -14,7 +14,7 @@ use Rattle.drn_lexer.specs.Cutting.{Piece}
 use Rattle.drn_lexer.specs.Lines.{TextLine, content, is_blank_line}
 use Rattle.drn_lexer.specs.Words.{WordKind, words}
 use Rattle.drn_expr.specs.RatPolys.{OverOne}
-use Rattle.drn_read.specs.Faults.{when, first_of, fault_of, told}
+use Rattle.drn_read.specs.Faults.{when, first_of, fault_of, reported}
 use Rattle.drn_read.specs.Parts.{is_empty}
 use Rattle.drn_read.specs.Text.{most_digits, is_digits, behind_colon}
 use Rattle.drn_read.specs.Sections.{Header}
@@ -58,9 +58,9 @@ done = codes "done"
 
 abbrev fault_by : Header → List StateText → TextLine → Bool → Bool → List ℕ → Option DrnError
 fault_by h states line head blank text =
-    if head then told line.number (Some UnknownSection)
+    if head then reported line.number (Some UnknownSection)
     else (if blank then None
-    else (if is_transition text then told line.number (transition_fault h states text)
+    else (if is_transition text then reported line.number (transition_fault h states text)
     else words_fault h states line (words text)))
 
 fault_is : (states : List StateText) (l : TextLine) (text : List ℕ) → SaysPlain l text → line_fault (saying states) l ≡ fault_by ladder_header states l false false text
@@ -120,8 +120,8 @@ state_leads l ds label ws init goal states e n is closed few =
     let calm : line_fault (saying states) l ≡ None =
     fault_is states l ((codes "state " ++ ds) ++ label) p
     ∙ ap (words_fault ladder_header states l) ws_are
-    ∙ ap (λ o. first_of (o ∷ told l.number (state_fault (length states) (plain_word ds ∷ ws)) ∷ [])) closed
-    ∙ ap (λ o. first_of (told l.number o ∷ [])) (state_calm ds (length states) (length states) ws n refl few is.calm) in
+    ∙ ap (λ o. first_of (o ∷ reported l.number (state_fault (length states) (plain_word ds ∷ ws)) ∷ [])) closed
+    ∙ ap (λ o. first_of (reported l.number o ∷ [])) (state_calm ds (length states) (length states) ws n refl few is.calm) in
     let step : states_with done ladder_header states l ≡ states ++ text_state l.number init goal [] ∷ [] =
     ap (λ b. states_by b (words (content l))) p.no_blank
     ∙ ap (λ t. states_by false (words t)) p.says
@@ -214,8 +214,8 @@ transition_leads l ds tail n v front s t e h is some fresh few grown =
     let digit_first : is_transition (ds ++ tail) ≡ true = ap (λ x. is_transition (x ++ tail)) d.is ∙ d.first_is in
     let calm : line_fault (saying states) l ≡ None =
     fault_is states l (ds ++ tail) p
-    ∙ ap (λ b. if b then told l.number (transition_fault ladder_header states (ds ++ tail)) else words_fault ladder_header states l (words (ds ++ tail))) digit_first
-    ∙ ap (told l.number) (transition_calm ds tail n v states h is some fresh few) in
+    ∙ ap (λ b. if b then reported l.number (transition_fault ladder_header states (ds ++ tail)) else words_fault ladder_header states l (words (ds ++ tail))) digit_first
+    ∙ ap (reported l.number) (transition_calm ds tail n v states h is some fresh few) in
     let ws : words (content l) ≡ plain_word (d.first ∷ d.rest) ∷ words tail = ap words p.says ∙ number_word ds tail n h is.stops ∙ ap (λ x. plain_word x ∷ words tail) d.is in
     let no = no_word d.first d.rest (words tail) c.s c.a in
     let value : entry_value ladder_header.names [] (content l) ≡ Ok v = ap (entry_value ladder_header.names []) p.says ∙ ap (value_behind) (behind_digits ds tail h.digits is.no_digit) ∙ is.value in

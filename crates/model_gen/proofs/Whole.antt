@@ -15,7 +15,7 @@ use Rattle.lift_model.specs.Model.{ModelData}
 use Rattle.lift_model.specs.declared.entry.Entry.{Entry}
 use Rattle.lift_model.specs.declared.kind.Kind.TheVariants.{Dtmc}
 use Rattle.drn_lexer.specs.Lines.{TextLine, numbered}
-use Rattle.drn_read.specs.Faults.{when, first_of, told}
+use Rattle.drn_read.specs.Faults.{when, first_of, reported}
 use Rattle.drn_read.specs.States.{StateText}
 use Rattle.drn_read.specs.Judging.{Said, has, choiceless}
 use Rattle.drn_read.specs.Laws.{SaysMore}
@@ -168,14 +168,14 @@ model_is n h =
 -- the fault at the end, by its tests
 end_by : ℕ → Option DrnError → Bool → Option Transition → Bool → Bool → Bool → Option DrnError
 end_by number closed empty outside inits goals large = first_of (
-    told number (when (not (has Model ladder_header)) MissingSection)
+    reported number (when (not (has Model ladder_header)) MissingSection)
     ∷ closed
-    ∷ told number (when empty NoState)
-    ∷ told number (when false CountMismatch)
+    ∷ reported number (when empty NoState)
+    ∷ reported number (when false CountMismatch)
     ∷ option_map (λ t. record { line = t.line; cause = TargetRange }) outside
-    ∷ told number (when (not inits) InitCount)
-    ∷ told number (when (not goals) UnknownLabel)
-    ∷ told number (when large CommonDenominator)
+    ∷ reported number (when (not inits) InitCount)
+    ∷ reported number (when (not goals) UnknownLabel)
+    ∷ reported number (when large CommonDenominator)
     ∷ [])
 
 end_is : (number : ℕ) (states : List StateText) → end_fault number (saying states)

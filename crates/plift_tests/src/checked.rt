@@ -4,7 +4,7 @@ use crate::models::{are_lines, lines_of};
 use crate::runs::{Sinks, wanted, words_of};
 use lift_base::SureSource;
 use std::alloc::{AllocError, Global};
-use test_cells::{Claim, Untold, cut_two};
+use test_cells::{Claim, Unreported, cut_two};
 
 // The heads of reports, each by its name. A semicolon stands for the end of a line.
 const HEADS: &str = "\
@@ -124,10 +124,10 @@ fn text_of(alloc: Global, head: &str, rest: &str) -> Result<Vec<u8>, AllocError>
 }
 
 // The bytes of a file, by the name of its head.
-fn file_of(alloc: Global, name: &str, rest: &str) -> Result<Vec<u8>, Untold> {
+fn file_of(alloc: Global, name: &str, rest: &str) -> Result<Vec<u8>, Unreported> {
     match find_head(name) {
         Some(head) => Ok(text_of(alloc, head, rest)?),
-        None => Err(Untold::Cell),
+        None => Err(Unreported::Cell),
     }
 }
 
@@ -138,7 +138,7 @@ struct Command {
 }
 
 impl Claim for Command {
-    fn holds(&self, alloc: Global, row: &str) -> Result<bool, Untold> {
+    fn holds(&self, alloc: Global, row: &str) -> Result<bool, Unreported> {
         let (head, rest, answer) = cut_two(row);
         let (want, written) = wanted(answer);
         let mut source = SureSource::new(file_of(alloc, head, rest)?);

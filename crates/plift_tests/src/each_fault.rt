@@ -4,7 +4,7 @@ use crate::models::{are_front, model_text};
 use crate::runs::{End, Sinks, sink, wanted, words_of};
 use lift_base::MemSource;
 use std::alloc::{AllocError, Global};
-use test_cells::{Claim, Untold, cut_two, number};
+use test_cells::{Claim, Unreported, cut_two, number};
 
 // Each row: the words, the input, how many bytes a read takes, where calls fail, the first and the last
 // of the calls of which one fails, the status, how much is written, and the note. A write takes one byte.
@@ -49,7 +49,7 @@ impl Runs<'_> {
     }
 
     // The source of the input.
-    fn source(self, alloc: Global, call: u64) -> Result<MemSource, Untold> {
+    fn source(self, alloc: Global, call: u64) -> Result<MemSource, Unreported> {
         let failing = Vec::from_slice(alloc, &[self.failing_at("read", call)])?;
         let input = model_text(alloc, self.input)?;
         Ok(MemSource::new(input, self.step.max(1), failing))
@@ -63,7 +63,7 @@ impl Runs<'_> {
     }
 
     // Whether the run whose call of that number fails ends as it should.
-    fn is_told(self, alloc: Global, call: u64) -> Result<bool, Untold> {
+    fn is_reported(self, alloc: Global, call: u64) -> Result<bool, Unreported> {
         let mut source = self.source(alloc, call)?;
         let mut sinks = self.sinks(alloc, call)?;
         let words = words_of(alloc, self.words, ' ')?;
@@ -73,9 +73,9 @@ impl Runs<'_> {
     }
 
     // Whether each of these runs ends as it should, and there is one.
-    fn are_told(self, alloc: Global, first: u64, last: u64) -> Result<bool, Untold> {
+    fn are_reported(self, alloc: Global, first: u64, last: u64) -> Result<bool, Unreported> {
         for call in first..last.saturating_add(1) {
-            if !self.is_told(alloc, call)? {
+            if !self.is_reported(alloc, call)? {
                 return Ok(false);
             }
         }
@@ -87,7 +87,7 @@ impl Runs<'_> {
 struct EachFault;
 
 impl Claim for EachFault {
-    fn holds(&self, alloc: Global, row: &str) -> Result<bool, Untold> {
+    fn holds(&self, alloc: Global, row: &str) -> Result<bool, Unreported> {
         let (words, input, rest) = cut_two(row);
         let (step, place, rest) = cut_two(rest);
         let (first, last, rest) = cut_two(rest);
@@ -100,11 +100,11 @@ impl Claim for EachFault {
             want,
             written,
         };
-        runs.are_told(alloc, number(first), number(last))
+        runs.are_reported(alloc, number(first), number(last))
     }
 }
 
 #[test]
-fn each_fault_is_told(rt: HostRuntime) {
+fn each_fault_is_reported(rt: HostRuntime) {
     each_claim(&rt, rt.alloc(), FAULTS, &EachFault);
 }

@@ -4,7 +4,7 @@ use crate::models::{are_lines, model_text};
 use crate::runs::{Sinks, sink, wanted, words_of};
 use lift_base::MemSource;
 use std::alloc::{AllocError, Global};
-use test_cells::{Claim, Untold, cut_two, number};
+use test_cells::{Claim, Unreported, cut_two, number};
 
 // Each row: the words and the model; which call fails at the source, at the sink and at the notes,
 // none where it is 0; how many bytes the sink holds; the status, the output, and the note.
@@ -56,7 +56,7 @@ fn sinks_of(alloc: Global, write: &str, tell: &str, room: &str) -> Result<Sinks,
 struct Faults;
 
 impl Claim for Faults {
-    fn holds(&self, alloc: Global, row: &str) -> Result<bool, Untold> {
+    fn holds(&self, alloc: Global, row: &str) -> Result<bool, Unreported> {
         let (words, model, rest) = cut_two(row);
         let (read, write, rest) = cut_two(rest);
         let (tell, room, rest) = cut_two(rest);
@@ -70,6 +70,6 @@ impl Claim for Faults {
 }
 
 #[test]
-fn faults_are_told(rt: HostRuntime) {
+fn faults_are_reported(rt: HostRuntime) {
     each_claim(&rt, rt.alloc(), FAULTS, &Faults);
 }

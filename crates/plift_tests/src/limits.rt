@@ -5,7 +5,7 @@ use crate::cells::each_claim;
 use crate::runs::{End, Sinks, words_of};
 use lift_base::{Got, Source};
 use std::alloc::Global;
-use test_cells::{Claim, Untold, cut, cut_two, number};
+use test_cells::{Claim, Unreported, cut, cut_two, number};
 
 // Each row: the words, how many line feeds the source gives, the status, and the note.
 const LIMITS: &str = "\
@@ -40,13 +40,13 @@ impl Source for LineFeeds {
 struct Limits;
 
 impl Claim for Limits {
-    fn holds(&self, alloc: Global, row: &str) -> Result<bool, Untold> {
+    fn holds(&self, alloc: Global, row: &str) -> Result<bool, Unreported> {
         let (words, left, rest) = cut_two(row);
-        let (status, told) = cut(rest);
+        let (status, reported) = cut(rest);
         let left = number(left) as usize;
         let mut sinks = Sinks::make(alloc, 10, 1)?;
         let words = words_of(alloc, words, ' ')?;
-        let want = End { status, told };
+        let want = End { status, reported };
         let comes = want.comes(alloc, &words, &mut LineFeeds { left }, &mut sinks);
         Ok(comes && sinks.out.taken().is_empty())
     }

@@ -4,7 +4,7 @@ use crate::models::are_lines;
 use crate::runs::{Sinks, wanted, words_of};
 use lift_base::SureSource;
 use std::alloc::{AllocError, Global};
-use test_cells::{Claim, Untold, cut};
+use test_cells::{Claim, Unreported, cut};
 
 // The coin. A semicolon stands between two lines.
 const COIN: &str =
@@ -113,7 +113,7 @@ struct Malformed {
 }
 
 impl Claim for Malformed {
-    fn holds(&self, alloc: Global, row: &str) -> Result<bool, Untold> {
+    fn holds(&self, alloc: Global, row: &str) -> Result<bool, Unreported> {
         let (changes, rest) = cut(row);
         let (want, written) = wanted(rest);
         let mut source = SureSource::new(changed(alloc, self.text, changes)?);
@@ -135,11 +135,11 @@ const ON_REPORT: Malformed = Malformed {
 };
 
 #[test]
-fn malformed_models_are_told(rt: HostRuntime) {
+fn malformed_models_are_reported(rt: HostRuntime) {
     each_claim(&rt, rt.alloc(), MODELS, &ON_COIN);
 }
 
 #[test]
-fn malformed_reports_are_told(rt: HostRuntime) {
+fn malformed_reports_are_reported(rt: HostRuntime) {
     each_claim(&rt, rt.alloc(), REPORTS, &ON_REPORT);
 }

@@ -1,6 +1,6 @@
 // The models of the tests, each by its name. A semicolon stands for the end of a line.
 use std::alloc::{AllocError, Global};
-use test_cells::Untold;
+use test_cells::Unreported;
 
 // NOTED_COIN: the coin with a comment in front, a tab before each line, and a carriage return behind
 // it. LESS, DECIMALS: rows that sum to less than 1. APART_COIN: values of different parameters, which
@@ -135,9 +135,9 @@ pub(crate) fn end_with(bytes: &[u8], text: &str) -> bool {
 }
 
 /// The bytes of the model of that name.
-pub(crate) fn model_text(alloc: Global, name: &str) -> Result<Vec<u8>, Untold> {
+pub(crate) fn model_text(alloc: Global, name: &str) -> Result<Vec<u8>, Unreported> {
     match find_model(name) {
         Some(text) => Ok(lines_of(alloc, text)?),
-        None => Err(Untold::Cell),
+        None => Err(Unreported::Cell),
     }
 }

@@ -28,6 +28,6 @@ verify --goal heads --bound 1/2 --precision 41 | PLAIN | Usage | - | usage: --pr
 ";
 
 #[test]
-fn refusals_are_told(rt: HostRuntime) {
+fn refusals_are_reported(rt: HostRuntime) {
     each_claim(&rt, rt.alloc(), REFUSED, &Answered);
 }

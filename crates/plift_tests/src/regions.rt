@@ -18,6 +18,6 @@ verify --goal heads --bound 1/2 --precision 4 --region  | COIN | Usage | - | usa
 ";
 
 #[test]
-fn regions_at_fault_are_told(rt: HostRuntime) {
+fn regions_at_fault_are_reported(rt: HostRuntime) {
     each_claim(&rt, rt.alloc(), REGIONS, &Answered);
 }

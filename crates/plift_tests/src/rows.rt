@@ -19,6 +19,6 @@ verify --goal heads --bound 1/2 --precision 4 --region 0<=a<=1,0<=b<=1,0<=c<=1,0
 ";
 
 #[test]
-fn rows_at_fault_are_told(rt: HostRuntime) {
+fn rows_at_fault_are_reported(rt: HostRuntime) {
     each_claim(&rt, rt.alloc(), REFUSED_ROWS, &Answered);
 }

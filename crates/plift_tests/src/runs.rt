@@ -5,7 +5,7 @@ use plift_top::{Status, run};
 use std::alloc::{AllocError, Global};
 use std::process::Abort;
 use std::string::String;
-use test_cells::{Claim, Untold, cut_two};
+use test_cells::{Claim, Unreported, cut_two};
 
 /// The words of a line; none where it is empty.
 pub fn words_of(alloc: Global, line: &str, separator: char) -> Result<Vec<String>, AllocError> {
@@ -71,7 +71,7 @@ fn ending<S: Source>(
 #[derive(Clone, Copy)]
 pub struct End<'a> {
     pub status: &'a str,
-    pub told: &'a str,
+    pub reported: &'a str,
 }
 
 impl End<'_> {
@@ -84,26 +84,26 @@ impl End<'_> {
         sinks: &mut Sinks,
     ) -> bool {
         let got = ending(alloc, words, source, sinks);
-        got == self.status && are_lines(sinks.notes.taken(), self.told)
+        got == self.status && are_lines(sinks.notes.taken(), self.reported)
     }
 }
 
 /// The end without a note.
 pub const DONE: End<'static> = End {
     status: "Done",
-    told: "-",
+    reported: "-",
 };
 
 /// The end where the output isn't taken.
 pub const CUT_OFF: End<'static> = End {
     status: "WriteFault",
-    told: "write fault;",
+    reported: "write fault;",
 };
 
 /// How a run ends, and what is written, by the last three cells of a row: the status, the output, and the notes.
 pub fn wanted(cells: &str) -> (End<'_>, &str) {
-    let (status, written, told) = cut_two(cells);
-    (End { status, told }, written)
+    let (status, written, reported) = cut_two(cells);
+    (End { status, reported }, written)
 }
 
 /// That the words and the model of a row give what stands beside them: the status, how the output ends, which is empty where that is
@@ -111,7 +111,7 @@ pub fn wanted(cells: &str) -> (End<'_>, &str) {
 pub struct Answered;
 
 impl Claim for Answered {
-    fn holds(&self, alloc: Global, row: &str) -> Result<bool, Untold> {
+    fn holds(&self, alloc: Global, row: &str) -> Result<bool, Unreported> {
         let (words, model, rest) = cut_two(row);
         let (want, end) = wanted(rest);
         let mut source = SureSource::new(model_text(alloc, model)?);
@@ -132,7 +132,7 @@ fn is_sound(alloc: Global, report: &[u8]) -> Result<bool, AllocError> {
 }
 
 // Whether a report is written, and is found sound.
-fn is_checked(alloc: Global, words: &str, model: &str) -> Result<bool, Untold> {
+fn is_checked(alloc: Global, words: &str, model: &str) -> Result<bool, Unreported> {
     let mut source = SureSource::new(model_text(alloc, model)?);
     let mut sinks = Sinks::make(alloc, 1000, 1000)?;
     let words = words_of(alloc, words, ' ')?;
@@ -144,7 +144,7 @@ fn is_checked(alloc: Global, words: &str, model: &str) -> Result<bool, Untold> {
 pub struct Checked;
 
 impl Claim for Checked {
-    fn holds(&self, alloc: Global, row: &str) -> Result<bool, Untold> {
+    fn holds(&self, alloc: Global, row: &str) -> Result<bool, Unreported> {
         let (words, model, rest) = cut_two(row);
         if rest.starts_with("Done | ") {
             is_checked(alloc, words, model)
@@ -170,7 +170,7 @@ impl Job<'_> {
         want: End<'_>,
         sinks: &mut Sinks,
         count: usize,
-    ) -> Result<bool, Untold> {
+    ) -> Result<bool, Unreported> {
         let mut source = SureSource::new(model_text(alloc, self.model)?);
         let words = words_of(alloc, self.words, ' ')?;
         let comes = want.comes(alloc, &words, &mut source, sinks);
@@ -178,7 +178,7 @@ impl Job<'_> {
     }
 
     // Whether a sink that holds so many bytes takes as many, and the job is cut off unless that is all.
-    fn is_cut_off(self, alloc: Global, room: usize) -> Result<bool, Untold> {
+    fn is_cut_off(self, alloc: Global, room: usize) -> Result<bool, Unreported> {
         let want = if room < self.text.len() {
             CUT_OFF
         } else {

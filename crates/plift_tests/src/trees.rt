@@ -2,7 +2,7 @@
 use crate::cells::each_claim;
 use crate::runs::{Answered, CUT_OFF, DONE, Job, Sinks, each_front, sink};
 use std::alloc::Global;
-use test_cells::Untold;
+use test_cells::Unreported;
 
 // Each row: the words, the model, the status, how the output ends, and no notes. A parameter that no
 // row depends on is never split.
@@ -60,7 +60,7 @@ fn reports_are_cut_off_anywhere(rt: HostRuntime) {
 }
 
 // Whether the report lacks its last two bytes, where the last call of the sink but one fails.
-fn lacks_what_failed(alloc: Global) -> Result<bool, Untold> {
+fn lacks_what_failed(alloc: Global) -> Result<bool, Unreported> {
     let len = REPORT.len();
     let mut sinks = Sinks {
         out: sink(alloc, 1000, 1, len as u64 - 1)?,
@@ -70,7 +70,7 @@ fn lacks_what_failed(alloc: Global) -> Result<bool, Untold> {
 }
 
 // Whether the same job is done whole.
-fn is_whole(alloc: Global) -> Result<bool, Untold> {
+fn is_whole(alloc: Global) -> Result<bool, Unreported> {
     let mut sinks = Sinks::make(alloc, 1000, 1)?;
     JOB.ends(alloc, DONE, &mut sinks, REPORT.len())
 }

@@ -4,7 +4,7 @@ use crate::models::are_lines;
 use crate::runs::{DONE, End, Sinks, words_of};
 use lift_base::MemSource;
 use std::alloc::{AllocError, Global};
-use test_cells::{Claim, Untold, cut};
+use test_cells::{Claim, Unreported, cut};
 
 // Each row: the words between bars, and what is told.
 const LINES: &str = "\
@@ -188,14 +188,14 @@ fn comes(alloc: Global, want: End<'_>, line: &str, sinks: &mut Sinks) -> Result<
 struct Lines;
 
 impl Claim for Lines {
-    fn holds(&self, alloc: Global, row: &str) -> Result<bool, Untold> {
-        let (line, told) = cut(row);
-        let status = match told {
+    fn holds(&self, alloc: Global, row: &str) -> Result<bool, Unreported> {
+        let (line, reported) = cut(row);
+        let status = match reported {
             "read fault;" => "ReadFault",
             _ => "Usage",
         };
         let mut sinks = Sinks::make(alloc, 10, 1)?;
-        let comes = comes(alloc, End { status, told }, line, &mut sinks)?;
+        let comes = comes(alloc, End { status, reported }, line, &mut sinks)?;
         Ok(comes && sinks.out.taken().is_empty())
     }
 }
@@ -236,7 +236,7 @@ const TESTED: &str = "\
 struct Tested;
 
 impl Claim for Tested {
-    fn holds(&self, alloc: Global, row: &str) -> Result<bool, Untold> {
+    fn holds(&self, alloc: Global, row: &str) -> Result<bool, Unreported> {
         let (blocks, line) = cut(row);
         let words = format!(in alloc; "selftest|{blocks}")?;
         let mut sinks = Sinks::make(alloc, 100, 7)?;

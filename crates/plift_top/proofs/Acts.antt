@@ -24,17 +24,17 @@ use Rattle.plift_words.specs.declared.error.WordsError.{WordsError}
 use Rattle.plift_words.specs.declared.error.WordsError.TheVariants as words
 use Rattle.plift_top.specs.Refused.{words_refusal}
 use Rattle.std.specs.Option.{ForSome}
-use Rattle.plift_words.specs.Way.{bound_told, from_told, is_reported}
+use Rattle.plift_words.specs.Query.{query_bound, query_from, is_reported}
 use Rattle.plift_top.specs.RightReport.{version_of}
-use Rattle.plift_words.specs.declared.way.Way.{Way}
-use Rattle.plift_words.specs.declared.way.Way.TheVariants as way
+use Rattle.plift_words.specs.declared.query.Query.{Query}
+use Rattle.plift_words.specs.declared.query.Query.TheVariants as query
 use Rattle.plift_top.specs.Verify.{WasRead, IsAnswered, IsAnswerable, Reports, ReportsFront, IsRefused, KeepsWithin, lacks_chain}
-use Rattle.cert_text.specs.Forms.{IsToldBound}
+use Rattle.cert_text.specs.Forms.{IsReportedBound}
 use Rattle.cert_check.specs.Sound.{IsSoundFile, leaf_counts}
 use Rattle.cert_check.specs.Answer.{Answers}
 use Rattle.cert_check.specs.Laws.{AnswersAreOne, SoundFilesPass}
 use Rattle.cert_check.specs.Source.{NoFault, file_limit, report_limit}
-use Rattle.line_text.specs.Met.{WasMet}
+use Rattle.line_text.specs.Found.{WasFound}
 use Rattle.cert_check.specs.declared.summary.Summary.{Summary}
 use Rattle.cert_check.specs.declared.error.CheckError.{CheckError}
 use Rattle.plift_top.specs.Laws.{RightReportsAreSound, LumpedReportsAreSound}
@@ -68,13 +68,13 @@ faulty : SoundFilesPass → AnswersAreOne → (bytes : List ℕ) (leaves : Summa
 faulty pass one bytes leaves error file is = (let same = one bytes (Ok leaves) (Err error) (pass bytes leaves file) is in absurd (cc))
 
 -- what holds whatever may follow follows from what is known of it
-met_as : {P Q : List ℕ → Type 0} {limit : ℕ} {old new : Option (List ℕ)} → ((bytes : List ℕ) → P bytes → Q bytes) → WasMet limit P old new → WasMet limit Q old new
-met_as f h = record { bytes = h.bytes; consumed = h.consumed; small = h.small; ended = h.ended; finished = h.finished; has = λ later may. f (h.bytes ++ later) (h.has later may) }
+found_as : {P Q : List ℕ → Type 0} {limit : ℕ} {old new : Option (List ℕ)} → ((bytes : List ℕ) → P bytes → Q bytes) → WasFound limit P old new → WasFound limit Q old new
+found_as f h = record { bytes = h.bytes; consumed = h.consumed; small = h.small; ended = h.ended; finished = h.finished; has = λ later may. f (h.bytes ++ later) (h.has later may) }
 
 -- a source that tells its content gave these bytes, or will give some of them
-met_of : (P : List ℕ → Type 0) (limit : ℕ) (bytes : List ℕ) (new : Option (List ℕ)) → WasMet limit P (Some bytes) new → P bytes
-met_of P limit bytes None h = absurd h.consumed
-met_of P limit bytes (Some rest) h = subst P (sym h.consumed) (h.has rest h.finished)
+found_of : (P : List ℕ → Type 0) (limit : ℕ) (bytes : List ℕ) (new : Option (List ℕ)) → WasFound limit P (Some bytes) new → P bytes
+found_of P limit bytes None h = absurd h.consumed
+found_of P limit bytes (Some rest) h = subst P (sym h.consumed) (h.has rest h.finished)
 
 -- a report that was given isn't too long where it is short
 not_long_report : (bytes : List ℕ) (rest : Option (List ℕ)) → length bytes ≤ report_limit → TakenHas (λ taken. report_limit < length taken) (Some bytes) rest → ⊥
@@ -82,48 +82,48 @@ not_long_report bytes None h long = absurd long.1
 not_long_report bytes (Some ys) h (taken, is, more) = omega (arith, ap length is, length-append taken ys)
 
 -- what is answered is a case
-answered_case : (old new : Option (List ℕ)) (asked : Way) (a : AskedModel) (k : CaseData) → IsAnswered old new asked a k → IsCase k
-answered_case old new (way.Whole bound from) a k h = h.case
-answered_case old new (way.Within bound n) a k h = h.case
-answered_case old new (way.Lumped bound) a k h = h.is.case
-answered_case old new (way.Property bound op) a k h = h.case
-answered_case old new (way.Cost limits) a k h = h.case
+answered_case : (old new : Option (List ℕ)) (asked : Query) (a : AskedModel) (k : CaseData) → IsAnswered old new asked a k → IsCase k
+answered_case old new (query.Whole bound from) a k h = h.case
+answered_case old new (query.Within bound n) a k h = h.case
+answered_case old new (query.Lumped bound) a k h = h.is.case
+answered_case old new (query.Property bound op) a k h = h.case
+answered_case old new (query.Cost limits) a k h = h.case
 
 -- and can be
-answerable : (old new : Option (List ℕ)) (asked : Way) (a : AskedModel) (k : CaseData) → IsAnswered old new asked a k → IsAnswerable asked k.model
-answerable old new (way.Whole bound from) a k h = (refl, λ e. absurd (cc))
-answerable old new (way.Within bound n) a k h = (refl, λ e. absurd (cc))
-answerable old new (way.Lumped bound) a k h = (ap (lacks_chain (way.Lumped bound)) h.is.chain, λ e wide. not_wide h.is.lumped h.reported.case.asked.model wide)
-answerable old new (way.Property bound op) a k h = (refl, λ e. absurd (cc))
-answerable old new (way.Cost limits) a k h = (refl, λ e. absurd (cc))
+answerable : (old new : Option (List ℕ)) (asked : Query) (a : AskedModel) (k : CaseData) → IsAnswered old new asked a k → IsAnswerable asked k.model
+answerable old new (query.Whole bound from) a k h = (refl, λ e. absurd (cc))
+answerable old new (query.Within bound n) a k h = (refl, λ e. absurd (cc))
+answerable old new (query.Lumped bound) a k h = (ap (lacks_chain (query.Lumped bound)) h.is.chain, λ e wide. not_wide h.is.lumped h.reported.case.asked.model wide)
+answerable old new (query.Property bound op) a k h = (refl, λ e. absurd (cc))
+answerable old new (query.Cost limits) a k h = (refl, λ e. absurd (cc))
 
 -- what answers a case that a text stands for, by a report, is a sound file
-answered_soundly : RightReportsAreSound → LumpedReportsAreSound → (old new : Option (List ℕ)) (asked : Way) (text label : List ℕ) (m : ModelData) (root : Region) (w : ℕ) → drn text label ≡ Ok m → ForSome (bound_told asked) IsToldBound → is_reported asked ≡ true
-    → IsAnswered old new asked (uncut m) (case_of m root w) → (report : List ℕ) × (leaves : Summary) × IsSoundFile report leaves × (leaves.version ≡ version_of (from_told asked)) × Appends old new report
-answered_soundly law lumped old new (way.Whole bound from) text label m root w read told shown h =
+answered_soundly : RightReportsAreSound → LumpedReportsAreSound → (old new : Option (List ℕ)) (asked : Query) (text label : List ℕ) (m : ModelData) (root : Region) (w : ℕ) → drn text label ≡ Ok m → ForSome (query_bound asked) IsReportedBound → is_reported asked ≡ true
+    → IsAnswered old new asked (uncut m) (case_of m root w) → (report : List ℕ) × (leaves : Summary) × IsSoundFile report leaves × (leaves.version ≡ version_of (query_from asked)) × Appends old new report
+answered_soundly law lumped old new (query.Whole bound from) text label m root w read reported shown h =
     let k = case_of m root w in
-    (report_text k from bound h.tree, leaf_counts (version_of from) h.tree, law text label m root w from bound h.tree read h.case h.range (told bound refl) h.right, refl, h.report)
-answered_soundly law lumped old new (way.Within bound n) text label m root w read told shown h = absurd (cc)
-answered_soundly law lumped old new (way.Property bound op) text label m root w read told shown h = absurd (cc)
-answered_soundly law lumped old new (way.Cost limits) text label m root w read told shown h = absurd (cc)
-answered_soundly law lumped old new (way.Lumped bound) text label m root w read told shown h =
+    (report_text k from bound h.tree, leaf_counts (version_of from) h.tree, law text label m root w from bound h.tree read h.case h.range (reported bound refl) h.right, refl, h.report)
+answered_soundly law lumped old new (query.Within bound n) text label m root w read reported shown h = absurd (cc)
+answered_soundly law lumped old new (query.Property bound op) text label m root w read reported shown h = absurd (cc)
+answered_soundly law lumped old new (query.Cost limits) text label m root w read reported shown h = absurd (cc)
+answered_soundly law lumped old new (query.Lumped bound) text label m root w read reported shown h =
     let k = lumped_case (case_of m root w) h.l in
     let r = h.reported in
-    (report_text k None bound r.tree, leaf_counts 1 r.tree, lumped text label (case_of m root w) h.l bound r.tree read h.is.lumped r.case (told bound refl) r.right, refl, r.report)
+    (report_text k None bound r.tree, leaf_counts 1 r.tree, lumped text label (case_of m root w) h.l bound r.tree read h.is.lumped r.case (reported bound refl) r.right, refl, r.report)
 
 -- what is a report of a job to a text, is a sound file
-reported_soundly : RightReportsAreSound → LumpedReportsAreSound → (old new : Option (List ℕ)) (j : VerifyData) (text : List ℕ) → ForSome (bound_told j.way) IsToldBound → (j.safe ≡ None) × (j.reward ≡ None) → is_reported j.way ≡ true → Reports old new j text
-    → (report : List ℕ) × (leaves : Summary) × IsSoundFile report leaves × (leaves.version ≡ version_of (from_told j.way)) × Appends old new report
-reported_soundly law lumped old new j text told none shown m = by (as_read j text none.1 none.0 m.model m.read)
+reported_soundly : RightReportsAreSound → LumpedReportsAreSound → (old new : Option (List ℕ)) (j : VerifyData) (text : List ℕ) → ForSome (query_bound j.query) IsReportedBound → (j.safe ≡ None) × (j.reward ≡ None) → is_reported j.query ≡ true → Reports old new j text
+    → (report : List ℕ) × (leaves : Summary) × IsSoundFile report leaves × (leaves.version ≡ version_of (query_from j.query)) × Appends old new report
+reported_soundly law lumped old new j text reported none shown m = by (as_read j text none.1 none.0 m.model m.read)
   where
-    by : ((n : ModelData) × (drn text j.goal ≡ Ok n) × (m.model ≡ uncut n)) → (report : List ℕ) × (leaves : Summary) × IsSoundFile report leaves × (leaves.version ≡ version_of (from_told j.way)) × Appends old new report
+    by : ((n : ModelData) × (drn text j.goal ≡ Ok n) × (m.model ≡ uncut n)) → (report : List ℕ) × (leaves : Summary) × IsSoundFile report leaves × (leaves.version ≡ version_of (query_from j.query)) × Appends old new report
     by (n, read, same) =
-        answered_soundly law lumped old new j.way text j.goal n m.root j.precision read told shown
-        (subst (λ (b : AskedModel). IsAnswered old new j.way b (case_of (cut b) m.root j.precision)) same m.has)
+        answered_soundly law lumped old new j.query text j.goal n m.root j.precision read reported shown
+        (subst (λ (b : AskedModel). IsAnswered old new j.query b (case_of (cut b) m.root j.precision)) same m.has)
 
-read_soundly : RightReportsAreSound → LumpedReportsAreSound → (old new : Option (List ℕ)) (j : VerifyData) (before after : Option (List ℕ)) → ForSome (bound_told j.way) IsToldBound → (j.safe ≡ None) × (j.reward ≡ None) → is_reported j.way ≡ true → WasRead (Reports old new j) before after
-    → (report : List ℕ) × (leaves : Summary) × IsSoundFile report leaves × (leaves.version ≡ version_of (from_told j.way)) × Appends old new report
-read_soundly law lumped old new j before after told none shown w = reported_soundly law lumped old new j w.text told none shown w.has
+read_soundly : RightReportsAreSound → LumpedReportsAreSound → (old new : Option (List ℕ)) (j : VerifyData) (before after : Option (List ℕ)) → ForSome (query_bound j.query) IsReportedBound → (j.safe ≡ None) × (j.reward ≡ None) → is_reported j.query ≡ true → WasRead (Reports old new j) before after
+    → (report : List ℕ) × (leaves : Summary) × IsSoundFile report leaves × (leaves.version ≡ version_of (query_from j.query)) × Appends old new report
+read_soundly law lumped old new j before after reported none shown w = reported_soundly law lumped old new j w.text reported none shown w.has
 
 module _ {S K : Type 0} (left : S → Option (List ℕ)) (faults : S → ℕ) (taken : K → Option (List ℕ)) (counts : K → ℕ) (source source' : S) (out out' : K) where
   pub done : (asked : Result JobData Field) (answer : Result (Unit {0}) Refusal) → Acts left faults taken counts asked source source' out out' answer → answered answer ≡ status.Done
@@ -171,20 +171,20 @@ module _ {S K : Type 0} (left : S → Option (List ℕ)) (faults : S → ℕ) (t
 
   -- what was written for a job is a sound file
   pub sound : RightReportsAreSound → LumpedReportsAreSound → (asked : Result JobData Field) (answer : Result (Unit {0}) Refusal) → Acts left faults taken counts asked source source' out out' answer
-      → (IsOk answer → (j : VerifyData) → AsksToVerify asked j → ForSome (bound_told j.way) IsToldBound) → (IsOk answer → (j : VerifyData) → AsksToVerify asked j → is_reported j.way ≡ true → (j.safe ≡ None) × (j.reward ≡ None))
-      → answered answer ≡ status.Done → (j : VerifyData) → AsksToVerify asked j → is_reported j.way ≡ true
-      → (report : List ℕ) × (leaves : Summary) × IsSoundFile report leaves × (leaves.version ≡ version_of (from_told j.way)) × Appends (taken out) (taken out') report
-  sound law lumped (Ok (verify i)) (Ok x) a told whole e j is shown =
+      → (IsOk answer → (j : VerifyData) → AsksToVerify asked j → ForSome (query_bound j.query) IsReportedBound) → (IsOk answer → (j : VerifyData) → AsksToVerify asked j → is_reported j.query ≡ true → (j.safe ≡ None) × (j.reward ≡ None))
+      → answered answer ≡ status.Done → (j : VerifyData) → AsksToVerify asked j → is_reported j.query ≡ true
+      → (report : List ℕ) × (leaves : Summary) × IsSoundFile report leaves × (leaves.version ≡ version_of (query_from j.query)) × Appends (taken out) (taken out') report
+  sound law lumped (Ok (verify i)) (Ok x) a reported whole e j is shown =
       let same : i ≡ j = cc in
-      read_soundly law lumped (taken out) (taken out') j (left source) (left source') (told refl j is) (whole refl j is shown) shown
+      read_soundly law lumped (taken out) (taken out') j (left source) (left source') (reported refl j is) (whole refl j is shown) shown
       (subst (λ (k : VerifyData). WasRead (Reports (taken out) (taken out') k) (left source) (left source')) same a)
-  sound law lumped (Ok (generate n)) (Ok x) a told whole e j is shown = absurd (cc)
-  sound law lumped (Ok check) (Ok x) a told whole e j is shown = absurd (cc)
-  sound law lumped (Ok migrate) (Ok x) a told whole e j is shown = absurd (cc)
-  sound law lumped (Ok (refine depth)) (Ok x) a told whole e j is shown = absurd (cc)
-  sound law lumped (Ok (selftest n)) (Ok x) a told whole e j is shown = absurd (cc)
-  sound law lumped (Err f) (Ok x) a told whole e j is shown = absurd a.0
-  sound law lumped asked (Err r) a told whole e j is shown = absurd (never_done r e)
+  sound law lumped (Ok (generate n)) (Ok x) a reported whole e j is shown = absurd (cc)
+  sound law lumped (Ok check) (Ok x) a reported whole e j is shown = absurd (cc)
+  sound law lumped (Ok migrate) (Ok x) a reported whole e j is shown = absurd (cc)
+  sound law lumped (Ok (refine depth)) (Ok x) a reported whole e j is shown = absurd (cc)
+  sound law lumped (Ok (selftest n)) (Ok x) a reported whole e j is shown = absurd (cc)
+  sound law lumped (Err f) (Ok x) a reported whole e j is shown = absurd a.0
+  sound law lumped asked (Err r) a reported whole e j is shown = absurd (never_done r e)
 
   noted : (asked : Result JobData Field) (r : Refusal) → Acts {T = Unit {0}} left faults taken counts asked source source' out out' (Err r) → HasNote (status_of r) asked (left source) (left source') (note_of r)
   noted (Ok (verify j)) (refusal.Usage f) a = absurd a.0
@@ -228,11 +228,11 @@ module _ {S K : Type 0} (left : S → Option (List ℕ)) (faults : S → ℕ) (t
   noted (Err f) refusal.Memory a = (refusal.Memory, refl, refl, tt)
   noted (Err f) _ a = absurd a.0
 
-  pub told : {E : Type 0} (kept : E → Option (List ℕ)) (lost : E → ℕ) (notes notes' : E) (asked : Result JobData Field) (answer : Result (Unit {0}) Refusal) → Acts left faults taken counts asked source source' out out' answer
+  pub reported : {E : Type 0} (kept : E → Option (List ℕ)) (lost : E → ℕ) (notes notes' : E) (asked : Result JobData Field) (answer : Result (Unit {0}) Refusal) → Acts left faults taken counts asked source source' out out' answer
       → IsNoted kept lost notes notes' answer → answered answer ≢ status.Done
       → (note : List ℕ) × HasNote (answered answer) asked (left source) (left source') note × WroteNote kept lost notes notes' note
-  told kept lost notes notes' asked (Ok x) a n d = absurd (d refl)
-  told kept lost notes notes' asked (Err r) a n d = (note_of r, noted asked r a, n)
+  reported kept lost notes notes' asked (Ok x) a n d = absurd (d refl)
+  reported kept lost notes notes' asked (Err r) a n d = (note_of r, noted asked r a, n)
 
   pub at_fault : (asked : Result JobData Field) (answer : Result (Unit {0}) Refusal) → Acts left faults taken counts asked source source' out out' answer → IsErr asked
       → (answered answer ≡ status.Usage) ⊎ (answered answer ≡ status.Memory)
@@ -376,9 +376,9 @@ module _ {S K : Type 0} (left : S → Option (List ℕ)) (faults : S → ℕ) (t
   migrated_part (Err f) (Err _) a e is = absurd (cc)
 
   pub not_sound : SoundFilesPass → AnswersAreOne → (asked : Result JobData Field) (answer : Result (Unit {0}) Refusal) → Acts left faults taken counts asked source source' out out' answer → answered answer ≡ status.NotSound
-      → (AsksToCheck asked × WasMet report_limit IsUnsound (left source) (left source')) ⊎ ((AsksToMigrate asked × WasRead IsUnsoundFirst (left source) (left source')) ⊎ ((depth : ℕ) × AsksToRefine asked depth × WasRead IsUnsound (left source) (left source')))
+      → (AsksToCheck asked × WasFound report_limit IsUnsound (left source) (left source')) ⊎ ((AsksToMigrate asked × WasRead IsUnsoundFirst (left source) (left source')) ⊎ ((depth : ℕ) × AsksToRefine asked depth × WasRead IsUnsound (left source) (left source')))
   not_sound pass one asked (Ok x) a e = absurd (cc)
-  not_sound pass one (Ok check) (Err (refusal.Unsound error)) a e = inl (refl, met_as (λ bytes is leaves file. faulty pass one bytes leaves error file is) a.0)
+  not_sound pass one (Ok check) (Err (refusal.Unsound error)) a e = inl (refl, found_as (λ bytes is leaves file. faulty pass one bytes leaves error file is) a.0)
   not_sound pass one (Ok check) (Err _) a e = absurd (cc)
   not_sound pass one (Ok migrate) (Err (refusal.Unsound error)) a e = inr (inl (refl, read_as (λ bytes is leaves file. never_migrated pass one bytes leaves error file is) a.0))
   not_sound pass one (Ok (refine depth)) (Err (refusal.Unsound error)) a e = inr (inr (depth, refl, read_as (λ bytes is leaves file. faulty pass one bytes leaves error file is) a.0))
@@ -524,7 +524,7 @@ module _ {S K : Type 0} (left : S → Option (List ℕ)) (faults : S → ℕ) (t
   within (Err f) answer a limit e = took_few file_limit answer (left source) (left source') (limit (λ n is. absurd (cc))) e
 
 -- where a text was given and nothing failed
-module _ {S K : Type 0} (left : S → Option (List ℕ)) (faults : S → ℕ) (taken : K → Option (List ℕ)) (counts : K → ℕ) (source source' : S) (out out' : K) (j : VerifyData) (text : List ℕ) (told : left source ≡ Some text)
+module _ {S K : Type 0} (left : S → Option (List ℕ)) (faults : S → ℕ) (taken : K → Option (List ℕ)) (counts : K → ℕ) (source source' : S) (out out' : K) (j : VerifyData) (text : List ℕ) (reported : left source ≡ Some text)
     (len : length text ≤ file_limit) (sure1 : NoFault (faults source) (faults source')) (sure2 : NoFault (counts out) (counts out')) where
   -- an answer is one to the report of the job, or to what refuses it at its text, or for want of memory
   by_answer : (Q : Status → Type 0) → (Reports (taken out) (taken out') j text → Q status.Done) → ((why : Refusal) → IsRefused j why text → Q (status_of why)) → Q status.Memory
@@ -532,14 +532,14 @@ module _ {S K : Type 0} (left : S → Option (List ℕ)) (faults : S → ℕ) (t
   by_answer Q done refused memory (Ok (verify k)) answer a is = by answer (subst (λ (i : VerifyData). Acts left faults taken counts (Ok (verify i)) source source' out out' answer) (cc) a)
     where
       by : (answer : Result (Unit {0}) Refusal) → Acts left faults taken counts (Ok (verify j)) source source' out out' answer → Q (answered answer)
-      by (Ok x) a = done (given (Reports (taken out) (taken out') j) text (left source') (rw told at a))
+      by (Ok x) a = done (given (Reports (taken out) (taken out') j) text (left source') (rw reported at a))
       by (Err refusal.ReadFault) a = absurd (sure1 a.0)
       by (Err refusal.WriteFault) a = absurd (sure2 a.1)
-      by (Err refusal.TooLong) a = absurd (short text (left source') len (rw told at a.0))
+      by (Err refusal.TooLong) a = absurd (short text (left source') len (rw reported at a.0))
       by (Err refusal.Memory) a = memory
       by (Err (refusal.Usage field)) a = absurd a.0
       by (Err (refusal.Unsound error)) a = absurd a.0
-      by (Err r) a = refused r (given (IsRefused j r) text (left source') (rw told at a.0))
+      by (Err r) a = refused r (given (IsRefused j r) text (left source') (rw reported at a.0))
   by_answer Q done refused memory (Ok (generate n)) answer a is = absurd (cc)
   by_answer Q done refused memory (Ok check) answer a is = absurd (cc)
   by_answer Q done refused memory (Ok migrate) answer a is = absurd (cc)
@@ -550,7 +550,7 @@ module _ {S K : Type 0} (left : S → Option (List ℕ)) (faults : S → ℕ) (t
   module _ (none : AdmittedHasNoFault) where
     -- a job whose model is admitted over its region is done, but for want of memory
     pub complete : (asked : Result JobData Field) (answer : Result (Unit {0}) Refusal) → Acts left faults taken counts asked source source' out out' answer → AsksToVerify asked j → (a : AskedModel) (root : Region)
-        → asked_model j text ≡ Ok a → region (cut a).names j.depth j.region ≡ Ok root → IsAdmitted (case_of (cut a) root j.precision) → IsAnswerable j.way (cut a)
+        → asked_model j text ≡ Ok a → region (cut a).names j.depth j.region ≡ Ok root → IsAdmitted (case_of (cut a) root j.precision) → IsAnswerable j.query (cut a)
         → (answered answer ≡ status.Done) ⊎ (answered answer ≡ status.Memory)
     complete asked answer acts is a root read named admitted can =
         by_answer (λ (s : Status). (s ≡ status.Done) ⊎ (s ≡ status.Memory)) (λ h. inl refl)
@@ -561,19 +561,19 @@ module _ {S K : Type 0} (left : S → Option (List ℕ)) (faults : S → ℕ) (t
         → (answered answer ≡ status_of why) ⊎ (answered answer ≡ status.Memory)
     refused asked answer a is why bad =
         by_answer (λ (s : Status). (s ≡ status_of why) ⊎ (s ≡ status.Memory))
-        (λ h. absurd (never_refused none j (verified_model j text) (cut h.model) h.root (verified_of j text h.model h.read) h.named (answered_case _ _ j.way _ _ h.has).admitted (answerable _ _ j.way _ _ h.has) why bad))
+        (λ h. absurd (never_refused none j (verified_model j text) (cut h.model) h.root (verified_of j text h.model h.read) h.named (answered_case _ _ j.query _ _ h.has).admitted (answerable _ _ j.query _ _ h.has) why bad))
         (λ other h. inl (one_status j (verified_model j text) other why h bad)) (inr refl) asked answer a is
 
   -- a job whose rows aren't admitted is refused by them, but for want of memory
   pub unadmitted : (asked : Result JobData Field) (answer : Result (Unit {0}) Refusal) → Acts left faults taken counts asked source source' out out' answer → AsksToVerify asked j → (a : AskedModel) (root : Region)
-      → asked_model j text ≡ Ok a → region (cut a).names j.depth j.region ≡ Ok root → (IsAdmitted (case_of (cut a) root j.precision) → ⊥) → lacks_chain j.way (cut a).kind ≡ false
+      → asked_model j text ≡ Ok a → region (cut a).names j.depth j.region ≡ Ok root → (IsAdmitted (case_of (cut a) root j.precision) → ⊥) → lacks_chain j.query (cut a).kind ≡ false
       → (answered answer ≡ status.RowsRefused) ⊎ (answered answer ≡ status.Memory)
   unadmitted asked answer acts is a root read named bad chain =
       by_answer (λ (s : Status). (s ≡ status.RowsRefused) ⊎ (s ≡ status.Memory))
       (λ h. absurd (bad (same_case h))) (λ why h. inl (rows_status j (verified_model j text) (cut a) root (verified_of j text a read) named chain why h)) (inr refl) asked answer acts is
     where
       same_case : Reports (taken out) (taken out') j text → IsAdmitted (case_of (cut a) root j.precision)
-      same_case h = admitted_by h.model h.root h.read h.named (answered_case _ _ j.way _ _ h.has).admitted
+      same_case h = admitted_by h.model h.root h.read h.named (answered_case _ _ j.query _ _ h.has).admitted
         where
           admitted_by : (b : AskedModel) (r : Region) → asked_model j text ≡ Ok b → region (cut b).names j.depth j.region ≡ Ok r → IsAdmitted (case_of (cut b) r j.precision) → IsAdmitted (case_of (cut a) root j.precision)
           admitted_by b r e f h =
@@ -583,17 +583,17 @@ module _ {S K : Type 0} (left : S → Option (List ℕ)) (faults : S → ℕ) (t
               subst (λ (r : Region). IsAdmitted (case_of (cut a) r j.precision)) second (subst (λ (c : AskedModel). IsAdmitted (case_of (cut c) r j.precision)) first h)
 
 -- where a check was asked for, bytes were given and nothing failed
-module _ {S K : Type 0} (left : S → Option (List ℕ)) (faults : S → ℕ) (taken : K → Option (List ℕ)) (counts : K → ℕ) (source source' : S) (out out' : K) (bytes : List ℕ) (told : left source ≡ Some bytes)
+module _ {S K : Type 0} (left : S → Option (List ℕ)) (faults : S → ℕ) (taken : K → Option (List ℕ)) (counts : K → ℕ) (source source' : S) (out out' : K) (bytes : List ℕ) (reported : left source ≡ Some bytes)
     (len : length bytes ≤ report_limit) (sure1 : NoFault (faults source) (faults source')) (sure2 : NoFault (counts out) (counts out')) where
   -- an answer is that the bytes are sound, or their first fault, or for want of memory
   by_check : (Q : Status → Type 0) → (IsFoundSound (taken out) (taken out') bytes → Q status.Done) → ((error : CheckError) → Answers bytes (Err error) → Q status.NotSound) → Q status.Memory
       → (asked : Result JobData Field) (answer : Result (Unit {0}) Refusal) → Acts left faults taken counts asked source source' out out' answer → AsksToCheck asked → Q (answered answer)
-  by_check Q sound faulty memory (Ok check) (Ok x) a is = sound (given (IsFoundSound (taken out) (taken out')) bytes (left source') (rw told at a))
+  by_check Q sound faulty memory (Ok check) (Ok x) a is = sound (given (IsFoundSound (taken out) (taken out')) bytes (left source') (rw reported at a))
   by_check Q sound faulty memory (Ok check) (Err refusal.ReadFault) a is = absurd (sure1 a.0)
   by_check Q sound faulty memory (Ok check) (Err refusal.WriteFault) a is = absurd (sure2 a.1)
-  by_check Q sound faulty memory (Ok check) (Err refusal.TooLong) a is = absurd (not_long_report bytes (left source') len (rw told at a.0))
+  by_check Q sound faulty memory (Ok check) (Err refusal.TooLong) a is = absurd (not_long_report bytes (left source') len (rw reported at a.0))
   by_check Q sound faulty memory (Ok check) (Err refusal.Memory) a is = memory
-  by_check Q sound faulty memory (Ok check) (Err (refusal.Unsound error)) a is = faulty error (met_of (λ bytes. Answers bytes (Err error)) report_limit bytes (left source') (rw told at a.0))
+  by_check Q sound faulty memory (Ok check) (Err (refusal.Unsound error)) a is = faulty error (found_of (λ bytes. Answers bytes (Err error)) report_limit bytes (left source') (rw reported at a.0))
   by_check Q sound faulty memory (Ok check) (Err _) a is = absurd a.0
   by_check Q sound faulty memory (Ok migrate) answer a is = absurd (cc)
   by_check Q sound faulty memory (Ok (refine depth)) answer a is = absurd (cc)
@@ -615,17 +615,17 @@ module _ {S K : Type 0} (left : S → Option (List ℕ)) (faults : S → ℕ) (t
       by_check (λ (s : Status). (s ≡ status.NotSound) ⊎ (s ≡ status.Memory)) (λ h. absurd (bad h.leaves h.trusted.file)) (λ error h. inl refl) (inr refl) asked answer a is
 
 -- where a report was to be migrated, bytes were given and nothing failed
-module _ {S K : Type 0} (left : S → Option (List ℕ)) (faults : S → ℕ) (taken : K → Option (List ℕ)) (counts : K → ℕ) (source source' : S) (out out' : K) (bytes : List ℕ) (told : left source ≡ Some bytes)
+module _ {S K : Type 0} (left : S → Option (List ℕ)) (faults : S → ℕ) (taken : K → Option (List ℕ)) (counts : K → ℕ) (source source' : S) (out out' : K) (bytes : List ℕ) (reported : left source ≡ Some bytes)
     (len : length bytes ≤ file_limit) (sure1 : NoFault (faults source) (faults source')) (sure2 : NoFault (counts out) (counts out')) where
   -- an answer is that the bytes are sound, or why they aren't, or for want of memory
   by_migrate : (Q : Status → Type 0) → (IsMigrated (Appends (taken out) (taken out')) bytes → Q status.Done) → ((error : CheckError) → IsRefusedFirst error bytes → Q status.NotSound) → Q status.Memory
       → (asked : Result JobData Field) (answer : Result (Unit {0}) Refusal) → Acts left faults taken counts asked source source' out out' answer → AsksToMigrate asked → Q (answered answer)
-  by_migrate Q sound refused memory (Ok migrate) (Ok x) a is = sound (given (IsMigrated (Appends (taken out) (taken out'))) bytes (left source') (rw told at a))
+  by_migrate Q sound refused memory (Ok migrate) (Ok x) a is = sound (given (IsMigrated (Appends (taken out) (taken out'))) bytes (left source') (rw reported at a))
   by_migrate Q sound refused memory (Ok migrate) (Err refusal.ReadFault) a is = absurd (sure1 a.0)
   by_migrate Q sound refused memory (Ok migrate) (Err refusal.WriteFault) a is = absurd (sure2 a.1)
-  by_migrate Q sound refused memory (Ok migrate) (Err refusal.TooLong) a is = absurd (short bytes (left source') len (rw told at a.0))
+  by_migrate Q sound refused memory (Ok migrate) (Err refusal.TooLong) a is = absurd (short bytes (left source') len (rw reported at a.0))
   by_migrate Q sound refused memory (Ok migrate) (Err refusal.Memory) a is = memory
-  by_migrate Q sound refused memory (Ok migrate) (Err (refusal.Unsound error)) a is = refused error (given (IsRefusedFirst error) bytes (left source') (rw told at a.0))
+  by_migrate Q sound refused memory (Ok migrate) (Err (refusal.Unsound error)) a is = refused error (given (IsRefusedFirst error) bytes (left source') (rw reported at a.0))
   by_migrate Q sound refused memory (Ok migrate) (Err _) a is = absurd a.0
   by_migrate Q sound refused memory (Ok check) answer a is = absurd (cc)
   by_migrate Q sound refused memory (Ok (refine depth)) answer a is = absurd (cc)
@@ -677,21 +677,21 @@ module _ {S K : Type 0} (left : S → Option (List ℕ)) (faults : S → ℕ) (t
       → (depth : ℕ) → AsksToRefine asked depth → WasRead (RefinesRight (taken out) (taken out') depth) (left source) (left source')
   refined_right one asked answer a e depth is = read_as (λ bytes h. refines_right one (taken out) (taken out') depth bytes h) (refined asked answer a e depth is)
 
-  module _ (depth : ℕ) (bytes : List ℕ) (told : left source ≡ Some bytes) (len : length bytes ≤ file_limit) (sure1 : NoFault (faults source) (faults source')) (sure2 : NoFault (counts out) (counts out')) where
+  module _ (depth : ℕ) (bytes : List ℕ) (reported : left source ≡ Some bytes) (len : length bytes ≤ file_limit) (sure1 : NoFault (faults source) (faults source')) (sure2 : NoFault (counts out) (counts out')) where
     -- an answer is one to the report that goes on, or to what refuses it, or for want of memory
     by_refine : (Q : Status → Type 0) → (IsRefinedTo (taken out) (taken out') depth bytes → Q status.Done) → ((why : Refusal) → IsRefusedDeeper depth why bytes → Q (status_of why)) → Q status.Memory
         → (asked : Result JobData Field) (answer : Result (Unit {0}) Refusal) → Acts left faults taken counts asked source source' out out' answer → AsksToRefine asked depth → Q (answered answer)
     by_refine Q done refused memory (Ok (refine d)) answer a is = by answer (subst (λ (i : ℕ). Acts left faults taken counts (Ok (refine i)) source source' out out' answer) (cc) a)
       where
         by : (answer : Result (Unit {0}) Refusal) → Acts left faults taken counts (Ok (refine depth)) source source' out out' answer → Q (answered answer)
-        by (Ok x) a = done (given (IsRefinedTo (taken out) (taken out') depth) bytes (left source') (rw told at a))
+        by (Ok x) a = done (given (IsRefinedTo (taken out) (taken out') depth) bytes (left source') (rw reported at a))
         by (Err refusal.ReadFault) a = absurd (sure1 a.0)
         by (Err refusal.WriteFault) a = absurd (sure2 a.1)
-        by (Err refusal.TooLong) a = absurd (short bytes (left source') len (rw told at a.0))
+        by (Err refusal.TooLong) a = absurd (short bytes (left source') len (rw reported at a.0))
         by (Err refusal.Memory) a = memory
-        by (Err (refusal.Unsound error)) a = refused (refusal.Unsound error) (given (IsRefusedDeeper depth (refusal.Unsound error)) bytes (left source') (rw told at a.0))
-        by (Err (refusal.Usage f)) a = refused (refusal.Usage f) (given (IsRefusedDeeper depth (refusal.Usage f)) bytes (left source') (rw told at a.0))
-        by (Err (refusal.Rows error)) a = refused (refusal.Rows error) (given (IsRefusedDeeper depth (refusal.Rows error)) bytes (left source') (rw told at a.0))
+        by (Err (refusal.Unsound error)) a = refused (refusal.Unsound error) (given (IsRefusedDeeper depth (refusal.Unsound error)) bytes (left source') (rw reported at a.0))
+        by (Err (refusal.Usage f)) a = refused (refusal.Usage f) (given (IsRefusedDeeper depth (refusal.Usage f)) bytes (left source') (rw reported at a.0))
+        by (Err (refusal.Rows error)) a = refused (refusal.Rows error) (given (IsRefusedDeeper depth (refusal.Rows error)) bytes (left source') (rw reported at a.0))
         by (Err _) a = absurd a.0
     by_refine Q done refused memory (Ok migrate) answer a is = absurd (cc)
     by_refine Q done refused memory (Ok check) answer a is = absurd (cc)

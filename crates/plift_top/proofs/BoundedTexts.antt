@@ -12,7 +12,7 @@ use Rattle.lift_walk.specs.Sides.{IsAtDepth}
 use Rattle.lift_bounded.specs.Decided.{BoundedLeaf, DecidesWithin, IsOpenWithin}
 use Rattle.lift_bounded.specs.Laws.{AcceptingBoundsWithin, RejectingReachesWithin}
 use Rattle.lift_bounded.specs.Text.{tree_text}
-use Rattle.plift_words.specs.declared.way.Way.TheVariants as way
+use Rattle.plift_words.specs.declared.query.Query.TheVariants as query
 use Rattle.plift_top.specs.Asked.{uncut}
 use Rattle.plift_top.specs.Bounded.{bounded_text, IsBoundedText, PartHolds}
 use Rattle.plift_top.specs.Steps.{IsTestedCase, WritesCase}
@@ -27,7 +27,7 @@ leaf_holds accepting rejecting k bound h case spans depth (BoundedLeaf.reject q)
 -- what is said of a case's text holds
 pub reported_within : AcceptingBoundsWithin → RejectingReachesWithin → RootIsAtDepth → HalvesAreDeeper → TreesTile → LiveHasSpan
     → {K : Type 0} (taken : K → Option (List ℕ)) (faults : K → ℕ) (k : CaseData) (bound : Bound) (h : ℕ) (old new : K) (result : Written) → IsTestedCase k → WroteSome (IsBoundedText k bound h) taken faults old new result
-    → WritesCase taken faults (way.Within bound h) (uncut k.model) k old new result
+    → WritesCase taken faults (query.Within bound h) (uncut k.model) k old new result
 reported_within accepting rejecting root deeper tile live taken faults k bound h old new (Ok x) case w =
     let tree = w.some.1.1.0 in
     let right = w.some.1.1.1.0 in

@@ -2,7 +2,7 @@
 use Rattle.std.proofs.Common.{◌≡◌, ℕ, List, Ok, Err, refl, sym, subst, Result, IsErrAnd}
 use Rattle.std.specs.declared.option.Option.{Option}
 use Rattle.lift_base.specs.Outside.{Wrote}
-use Rattle.line_text.specs.Met.{WasRead as Read}
+use Rattle.line_text.specs.Found.{WasRead as Read}
 use Rattle.cert_check.specs.Source.{ChecksSource, KeepsLimit as Keeps, report_limit}
 use Rattle.cert_check.specs.declared.summary.Summary.{Summary}
 use Rattle.cert_check.specs.declared.error.CheckError.{CheckError}

@@ -17,7 +17,7 @@ use Rattle.lift_cost.specs.Laws.{CertificatesBoundCosts}
 use Rattle.lift_cost.specs.Text.{tree_text}
 use Rattle.lift_cost.specs.declared.question.Budget.{Budget}
 use Rattle.cert_text.specs.Report.{line, spaced}
-use Rattle.plift_words.specs.declared.way.Way.TheVariants as way
+use Rattle.plift_words.specs.declared.query.Query.TheVariants as query
 use Rattle.plift_top.specs.Asked.{AskedModel}
 use Rattle.plift_top.specs.Cost.{asked_cost, fraction_word, cost_word, cost_text, IsCostText, CostPartHolds}
 use Rattle.plift_top.specs.Steps.{IsTestedCase, WritesCase}
@@ -38,9 +38,9 @@ flat_suc f (x ∷ xs) zero default h = refl
 flat_suc f (x ∷ xs) (suc i) default h = flat_suc f xs i default (omega arith)
 
 -- the next of the costs that are left, which is told as a pair, and those behind it
-pub next_cost : (costs : List CostData) (s : ℕ) (told : ℤ × ℤ) → s < length costs → told ≡ (pos (cost_of costs s).num, pos (cost_of costs s).den)
-    → flat_map (λ c. spaced (cost_word c)) (drop s costs) ≡ spaced (fraction_word (unsigned_abs told.0) (unsigned_abs told.1)) ++ flat_map (λ c. spaced (cost_word c)) (drop (s + 1) costs)
-next_cost costs s told h e =
+pub next_cost : (costs : List CostData) (s : ℕ) (reported : ℤ × ℤ) → s < length costs → reported ≡ (pos (cost_of costs s).num, pos (cost_of costs s).den)
+    → flat_map (λ c. spaced (cost_word c)) (drop s costs) ≡ spaced (fraction_word (unsigned_abs reported.0) (unsigned_abs reported.1)) ++ flat_map (λ c. spaced (cost_word c)) (drop (s + 1) costs)
+next_cost costs s reported h e =
     rw (add-one s) (flat_suc (λ c. spaced (cost_word c)) costs s no_cost h
     ∙ ap (λ (t : ℤ × ℤ). spaced (fraction_word (unsigned_abs t.0) (unsigned_abs t.1)) ++ flat_map (λ c. spaced (cost_word c)) (drop (suc s) costs)) (sym e))
 
@@ -54,7 +54,7 @@ leaf_holds bounds k q case costs cap spans depth z at r = bounds k spans q.costs
 -- what is said of a case's text for what is asked
 reported_by : CertificatesBoundCosts → RootIsAtDepth → HalvesAreDeeper → TreesTile → LiveHasSpan
     → {K : Type 0} (taken : K → Option (List ℕ)) (faults : K → ℕ) (k : CaseData) (old new : K) (result : Written) → IsTestedCase k → (budget : Budget) (cap : ℕ) (a : AskedModel) → All IsCost a.costs → 1 ≤ cap
-    → WroteSome (IsCostText k (asked_cost (record { cap = cap; budget = budget }) a)) taken faults old new result → WritesCase taken faults (way.Cost (record { cap = cap; budget = budget })) a k old new result
+    → WroteSome (IsCostText k (asked_cost (record { cap = cap; budget = budget }) a)) taken faults old new result → WritesCase taken faults (query.Cost (record { cap = cap; budget = budget })) a k old new result
 reported_by bounds root deeper tile live taken faults k old new (Ok x) case budget cap a costs some w =
     let q = asked_cost (record { cap = cap; budget = budget }) a in
     let tree = w.some.1.1.0 in
@@ -79,7 +79,7 @@ reported_by bounds root deeper tile live taken faults k old new (Err e) case bud
 pub reported_paid : CertificatesBoundCosts → RootIsAtDepth → HalvesAreDeeper → TreesTile → LiveHasSpan
     → {K : Type 0} (taken : K → Option (List ℕ)) (faults : K → ℕ) (k : CaseData) (costs : List CostData) (cap : ℕ) (budget : Budget) (old new : K) (result : Written) → IsTestedCase k → All IsCost costs → 1 ≤ cap
     → WroteSome (IsCostText k (record { costs = costs; cap = cap; budget = record { num = budget.num; den = budget.den } })) taken faults old new result → (a : AskedModel) → costs ≡ a.costs
-    → WritesCase taken faults (way.Cost (record { cap = cap; budget = budget })) a k old new result
+    → WritesCase taken faults (query.Cost (record { cap = cap; budget = budget })) a k old new result
 reported_paid bounds root deeper tile live taken faults k costs cap budget old new result case valid some w a paid =
     reported_by bounds root deeper tile live taken faults k old new result case budget cap a (subst (All IsCost) paid valid) some
     (subst (λ (c : List CostData). WroteSome (IsCostText k (record { costs = c; cap = cap; budget = record { num = budget.num; den = budget.den } })) taken faults old new result) paid w)

@@ -43,15 +43,15 @@ module _ {K : Type 0} (head : List ℕ) (IsNodes : List ℕ → Type 0) (taken :
   }
 
   -- the head was written, and the nodes as the result says
-  pub nodes_told : {T E U F : Type 0} (old mid new : K) (x : T) (result : Result U F) → Wrote {E = E} taken faults old mid (Ok x) head → WroteSome IsNodes taken faults mid new result → WroteSome IsText taken faults old new result
-  nodes_told old mid new x (Ok y) w nodes = record {
+  pub nodes_reported : {T E U F : Type 0} (old mid new : K) (x : T) (result : Result U F) → Wrote {E = E} taken faults old mid (Ok x) head → WroteSome IsNodes taken faults mid new result → WroteSome IsText taken faults old new result
+  nodes_reported old mid new x (Ok y) w nodes = record {
     some = (let n = nodes.some in (head ++ n.0, (n.0, n.1, refl)));
     whole = λ bytes. by_nodes (Appends (taken old) (taken new)) bytes (λ rest is. Appends-trans (taken old) (taken mid) (taken new) head rest w.whole (nodes.whole rest is));
     part = tt;
     cause = tt;
     later = omega (arith, w.later, nodes.later);
   }
-  nodes_told old mid new x (Err f) w nodes = record {
+  nodes_reported old mid new x (Err f) w nodes = record {
     some = tt;
     whole = tt;
     part = λ bytes. by_nodes (AppendsFront (taken old) (taken new)) bytes (λ rest is. front_then (taken old) (taken mid) (taken new) head rest w.whole (nodes.part rest is));

@@ -29,7 +29,7 @@ use Rattle.lift_lump.specs.declared.error.LumpError.{LumpError}
 use Rattle.lift_lump.specs.declared.error.LumpError.TheVariants as lump
 use Rattle.lift_rows.specs.Laws.{CasesHaveWeights, CasesHaveSums}
 use Rattle.cert_check.specs.Trust.{HoldsInside, LeafHolds}
-use Rattle.plift_words.specs.declared.way.Way.TheVariants as way
+use Rattle.plift_words.specs.declared.query.Query.TheVariants as query
 use Rattle.plift_top.specs.Lumped.{lumped_case, IsHeldAt, HoldsOfChain, ChainLeafHolds, BlocksHold, IsLumpedCase}
 use Rattle.plift_top.specs.Verify.{lacks_chain}
 use Rattle.plift_top.specs.Asked.{uncut}
@@ -145,7 +145,7 @@ module _ (plans : ChainsHaveOnePlan) (some : ChainsHaveAPlan) (k : CaseData) (l 
 
   -- what comes of the quotient answers the chain's case
   pub of_quotient : {K T : Type 0} (taken : K → Option (List ℕ)) (counts : K → ℕ) (bound : Bound) (out out' : K) (result : Result T Refusal)
-      → AnswersCase taken counts (way.Whole bound None) (uncut (lumped_case k l).model) (lumped_case k l) out out' result → AnswersCase taken counts (way.Lumped bound) (uncut k.model) k out out' result
+      → AnswersCase taken counts (query.Whole bound None) (uncut (lumped_case k l).model) (lumped_case k l) out out' result → AnswersCase taken counts (query.Lumped bound) (uncut k.model) k out out' result
   of_quotient taken counts bound out out' (Ok x) h = record { l = l; is = is; reported = h; schedulers = leaves_say bound _ h.schedulers }
   of_quotient taken counts bound out out' (Err refusal.WriteFault) h = (record { l = l; is = is; cut_off = h.0 }, h.1)
   of_quotient taken counts bound out out' (Err refusal.Memory) h = h
@@ -154,11 +154,11 @@ module _ (plans : ChainsHaveOnePlan) (some : ChainsHaveAPlan) (k : CaseData) (l 
 
 -- the chain wasn't lumped
 pub not_lumped : {K T : Type 0} (taken : K → Option (List ℕ)) (counts : K → ℕ) (bound : Bound) (k : CaseData) → IsCase k → (out : K) (error : LumpError) (result : Result T Refusal) → IsErrAnd result (λ e. e ≡ lump_refusal error)
-    → (error ≡ lump.NotChain → ⊥) → (error ≡ lump.Wide → IsWide k.model) → AnswersCase taken counts (way.Lumped bound) (uncut k.model) k out out result
+    → (error ≡ lump.NotChain → ⊥) → (error ≡ lump.Wide → IsWide k.model) → AnswersCase taken counts (query.Lumped bound) (uncut k.model) k out out result
 not_lumped taken counts bound k case out error (Ok x) e never wide = absurd e
-not_lumped {T = T} taken counts bound k case out error (Err why) e never wide = subst (λ (f : Refusal). AnswersCase {T = T} taken counts (way.Lumped bound) (uncut k.model) k out out (Err f)) (sym e) (by error never wide)
+not_lumped {T = T} taken counts bound k case out error (Err why) e never wide = subst (λ (f : Refusal). AnswersCase {T = T} taken counts (query.Lumped bound) (uncut k.model) k out out (Err f)) (sym e) (by error never wide)
   where
-    by : (error : LumpError) → (error ≡ lump.NotChain → ⊥) → (error ≡ lump.Wide → IsWide k.model) → AnswersCase {T = T} taken counts (way.Lumped bound) (uncut k.model) k out out (Err (lump_refusal error))
+    by : (error : LumpError) → (error ≡ lump.NotChain → ⊥) → (error ≡ lump.Wide → IsWide k.model) → AnswersCase {T = T} taken counts (query.Lumped bound) (uncut k.model) k out out (Err (lump_refusal error))
     by lump.NotChain never wide = absurd (never refl)
     by lump.Wide never wide = ((refl, case.admitted, wide refl), refl)
     by lump.Memory never wide = refl
@@ -170,7 +170,7 @@ pub same_case : (k : CaseData) (l : LumpedData) (q : ModelData) (grid : Grid) (r
 same_case k l q grid root w a b c d e = rw (a, b, c, d, e) refl
 
 -- where a chain is to be lumped, and there is one
-pub is_chain : (bound : Bound) (kind : Kind) → lacks_chain (way.Lumped bound) kind ≡ false → kind ≡ Dtmc
+pub is_chain : (bound : Bound) (kind : Kind) → lacks_chain (query.Lumped bound) kind ≡ false → kind ≡ Dtmc
 is_chain bound Dtmc e = refl
 is_chain bound Mdp e = absurd (cc)
 

@@ -12,7 +12,7 @@ use Rattle.cert_text.specs.Migrated.{MigratesTo}
 use Rattle.cert_check.specs.Sound.{IsSoundFile}
 use Rattle.cert_check.specs.Answer.{Answers}
 use Rattle.cert_check.specs.Laws.{AnswersAreOne, SoundFilesMigrate, SoundFilesPass}
-use Rattle.cert_check.specs.Shown.{IsToldOfFile, Says}
+use Rattle.cert_check.specs.Shown.{IsReportedOfFile, Says}
 use Rattle.cert_check.specs.Source.{file_limit}
 use Rattle.cert_check.specs.declared.summary.Summary.{Summary}
 use Rattle.cert_check.specs.declared.error.CheckError.{CheckError}
@@ -84,17 +84,17 @@ module _ (bytes : List ℕ) (leaves : Summary) (file : IsSoundFile bytes leaves)
 -- ---- the check
 
 -- what is answered to a text whose first line isn't that of the second version
-pub answered_first : (text : List ℕ) (result : Result Summary CheckError) → starts_with nat_eq text (codes "plift 2\n") ≡ false → IfOk result (IsSoundFile text) → Says (λ s. s) (Answers text) result → IfErr result IsToldOfFile → ChecksFirst text result
-answered_first text (Ok leaves) other file is told = record { file = file; first = first_version text leaves file (not_second text other) }
-answered_first text (Err check.Memory) other file is told = tt
-answered_first text (Err check.Fault) other file is told = absurd told
-answered_first text (Err check.TooLong) other file is told = absurd told
-answered_first text (Err (check.Text e)) other file is told = inr (not_second text other, is (λ k. absurd (cc)))
-answered_first text (Err (check.Rows e)) other file is told = inr (not_second text other, is (λ k. absurd (cc)))
-answered_first text (Err (check.Missed node miss)) other file is told = inr (not_second text other, is (λ k. absurd (cc)))
-answered_first text (Err (check.Depth node)) other file is told = inr (not_second text other, is (λ k. absurd (cc)))
-answered_first text (Err (check.Axis node)) other file is told = inr (not_second text other, is (λ k. absurd (cc)))
-answered_first text (Err check.Rest) other file is told = inr (not_second text other, is (λ k. absurd (cc)))
+pub answered_first : (text : List ℕ) (result : Result Summary CheckError) → starts_with nat_eq text (codes "plift 2\n") ≡ false → IfOk result (IsSoundFile text) → Says (λ s. s) (Answers text) result → IfErr result IsReportedOfFile → ChecksFirst text result
+answered_first text (Ok leaves) other file is reported = record { file = file; first = first_version text leaves file (not_second text other) }
+answered_first text (Err check.Memory) other file is reported = tt
+answered_first text (Err check.Fault) other file is reported = absurd reported
+answered_first text (Err check.TooLong) other file is reported = absurd reported
+answered_first text (Err (check.Text e)) other file is reported = inr (not_second text other, is (λ k. absurd (cc)))
+answered_first text (Err (check.Rows e)) other file is reported = inr (not_second text other, is (λ k. absurd (cc)))
+answered_first text (Err (check.Missed node miss)) other file is reported = inr (not_second text other, is (λ k. absurd (cc)))
+answered_first text (Err (check.Depth node)) other file is reported = inr (not_second text other, is (λ k. absurd (cc)))
+answered_first text (Err (check.Axis node)) other file is reported = inr (not_second text other, is (λ k. absurd (cc)))
+answered_first text (Err check.Rest) other file is reported = inr (not_second text other, is (λ k. absurd (cc)))
 
 -- a sound file of the first version isn't refused
 pub never_refused : SoundFilesPass → AnswersAreOne → (bytes : List ℕ) (leaves : Summary) (error : CheckError) → IsSoundFirst bytes leaves → IsRefusedFirst error bytes → ⊥

@@ -18,7 +18,7 @@ use Rattle.property_text.specs.Restricted.{restricted, all_safe}
 use Rattle.property_text.specs.declared.op.Op.{Op}
 use Rattle.property_tree.specs.Leaves.{PropertyLeaf, IsBest, DecidesFor, IsOpenFor}
 use Rattle.property_tree.specs.Text.{tree_text}
-use Rattle.plift_words.specs.declared.way.Way.TheVariants as way
+use Rattle.plift_words.specs.declared.query.Query.TheVariants as query
 use Rattle.plift_top.specs.Asked.{AskedModel, cut, safe_states}
 use Rattle.plift_top.specs.Property.{property_text, IsPropertyText, SaysOfUntil, HoldsFor}
 use Rattle.plift_top.specs.Steps.{IsTestedCase, WritesCase}
@@ -46,7 +46,7 @@ module _ (all_at_least : UntilIsReachedByAll) (one_at_most : UntilIsBoundedForOn
 -- what is said of a case's text holds
 pub reported_for : UntilIsReachedByAll → UntilIsBoundedForOne → UntilIsBoundedForAll → UntilIsReachedByOne → CutOfNoneIsSame → RootIsAtDepth → HalvesAreDeeper → TreesTile → LiveHasSpan
     → {K : Type 0} (taken : K → Option (List ℕ)) (faults : K → ℕ) (k : CaseData) (op : Op) (bound : Bound) (old new : K) (result : Written) → IsTestedCase k → WroteSome (IsPropertyText k op bound) taken faults old new result
-    → (a : AskedModel) → k.model ≡ cut a → WritesCase taken faults (way.Property bound op) a k old new result
+    → (a : AskedModel) → k.model ≡ cut a → WritesCase taken faults (query.Property bound op) a k old new result
 reported_for all_at_least one_at_most all_at_most one_at_least same root deeper tile live taken faults k op bound old new (Ok x) case w a is =
     let tree = w.some.1.1.0 in
     let right = w.some.1.1.1.0 in

@@ -13,7 +13,7 @@ use Rattle.corner_lift.specs.Case.{CaseData, case_of}
 use Rattle.drn_read.specs.declared.error.DrnError.{DrnError}
 use Rattle.cert_check.specs.Source.{file_limit}
 use Rattle.plift_words.specs.Job.{VerifyData}
-use Rattle.plift_words.specs.declared.way.Way.{Way}
+use Rattle.plift_words.specs.declared.query.Query.{Query}
 use Rattle.plift_top.specs.Asked.{AskedModel, cut, verified_model}
 use Rattle.plift_top.specs.Refused.{region_refusal}
 use Rattle.plift_top.specs.Verify.{WasRead, Makes, IsAnswered, IsAnsweredInPart, IsRefused, IsRefusedAt, IsRefusedOf, IsRefusedOver, IsTooWide, Stops, Verifies, KeepsLimit, lacks_chain}
@@ -75,17 +75,17 @@ module _ {S : Type 0} (left : S → Option (List ℕ)) (faults : S → ℕ) (job
   stops_reading _ h = absurd h
 
   module _ (f : CostedModel) (read : ReadsModel left faults job source source' (Ok f)) where
-    refused_of : (why : Refusal) (lacks : Bool) → lacks_chain job.way f.model.kind ≡ lacks → IsRefusedOf lacks job f.model why → WasRead (IsRefused job why) (left source) (left source')
+    refused_of : (why : Refusal) (lacks : Bool) → lacks_chain job.query f.model.kind ≡ lacks → IsRefusedOf lacks job f.model why → WasRead (IsRefused job why) (left source) (left source')
     refused_of why lacks by h = read_as (λ text is. subst (λ (a : Result ModelData DrnError). IsRefusedAt job a why) (sym (verified_is job text f is)) (subst (λ b. IsRefusedOf b job f.model why) (sym by) h)) read
 
     -- a decision process where a chain is to be lumped
-    pub stops_process : lacks_chain job.way f.model.kind ≡ true → Stops left faults job source source' refusal.NotChain
+    pub stops_process : lacks_chain job.query f.model.kind ≡ true → Stops left faults job source source' refusal.NotChain
     stops_process lacks = refused_of refusal.NotChain true lacks refl
 
-    pub refused_over : lacks_chain job.way f.model.kind ≡ false → (why : Refusal) → IsRefusedOver job f.model (region f.model.names job.depth job.region) why → WasRead (IsRefused job why) (left source) (left source')
+    pub refused_over : lacks_chain job.query f.model.kind ≡ false → (why : Refusal) → IsRefusedOver job f.model (region f.model.names job.depth job.region) why → WasRead (IsRefused job why) (left source) (left source')
     refused_over chain why h = refused_of why false chain h
 
-    pub stops_naming : lacks_chain job.way f.model.kind ≡ false → (why : Refusal) → NamesRoot job f.model.names (Err why) → Stops left faults job source source' why
+    pub stops_naming : lacks_chain job.query f.model.kind ≡ false → (why : Refusal) → NamesRoot job f.model.names (Err why) → Stops left faults job source source' why
     stops_naming chain (refusal.Region error) h = refused_over chain (refusal.Region error) (subst (λ (r : Result Region RegionError). IsRefusedOver job f.model r (refusal.Region error)) (sym h) refl)
     stops_naming chain refusal.Memory h = tt
     stops_naming chain _ h = absurd h
@@ -101,18 +101,18 @@ stopped {T = T} left faults taken counts job source source' out why (Err e) is h
     by _ h = (h, refl)
 
 -- the answer to a case was cut off
-pub answer_cut_off : {K T : Type 0} (taken : K → Option (List ℕ)) (counts : K → ℕ) (asked : Way) (a : AskedModel) (k : CaseData) (out out' : K) (result : Result T Refusal) → IsErrAnd result (λ e. e ≡ refusal.WriteFault)
+pub answer_cut_off : {K T : Type 0} (taken : K → Option (List ℕ)) (counts : K → ℕ) (asked : Query) (a : AskedModel) (k : CaseData) (out out' : K) (result : Result T Refusal) → IsErrAnd result (λ e. e ≡ refusal.WriteFault)
     → IsAnsweredInPart (taken out) (taken out') asked a k × Rose (counts out) (counts out') → AnswersCase taken counts asked a k out out' result
 answer_cut_off taken counts asked a k out out' (Ok x) is h = absurd is
 answer_cut_off {T = T} taken counts asked a k out out' (Err e) is h = subst (λ (f : Refusal). AnswersCase {T = T} taken counts asked a k out out' (Err f)) (sym is) h
 
 -- memory ran out before anything was written
-pub answer_short : {K T : Type 0} (taken : K → Option (List ℕ)) (counts : K → ℕ) (asked : Way) (a : AskedModel) (k : CaseData) (out : K) (result : Result T Refusal) → IsErrAnd result (λ e. e ≡ refusal.Memory) → AnswersCase taken counts asked a k out out result
+pub answer_short : {K T : Type 0} (taken : K → Option (List ℕ)) (counts : K → ℕ) (asked : Query) (a : AskedModel) (k : CaseData) (out : K) (result : Result T Refusal) → IsErrAnd result (λ e. e ≡ refusal.Memory) → AnswersCase taken counts asked a k out out result
 answer_short taken counts asked a k out (Ok x) is = absurd is
 answer_short {T = T} taken counts asked a k out (Err e) is = subst (λ (f : Refusal). AnswersCase {T = T} taken counts asked a k out out (Err f)) (sym is) refl
 
 -- an answer to a case is one for another model, where what it says then is the same
-pub answers_as : {K T : Type 0} (taken : K → Option (List ℕ)) (counts : K → ℕ) (asked : Way) (a b : AskedModel) (k : CaseData) (out out' : K) (result : Result T Refusal)
+pub answers_as : {K T : Type 0} (taken : K → Option (List ℕ)) (counts : K → ℕ) (asked : Query) (a b : AskedModel) (k : CaseData) (out out' : K) (result : Result T Refusal)
     → (IsAnswered (taken out) (taken out') asked a k → IsAnswered (taken out) (taken out') asked b k) → (IsAnsweredInPart (taken out) (taken out') asked a k → IsAnsweredInPart (taken out) (taken out') asked b k) → AnswersCase taken counts asked a k out out' result → AnswersCase taken counts asked b k out out' result
 answers_as taken counts asked a b k out out' (Ok x) same part h = same h
 answers_as taken counts asked a b k out out' (Err refusal.WriteFault) same part h = (part h.0, h.1)
@@ -122,17 +122,17 @@ answers_as taken counts asked a b k out out' (Err _) same part h = absurd h
 
 module _ {K T : Type 0} (taken : K → Option (List ℕ)) (counts : K → ℕ) (job : VerifyData) (m : ModelData) (a : AskedModel) (is : m ≡ cut a) (r : Region) where
   -- the case of a model over a region was answered
-  pub over_answered : (k : CaseData) (out out' : K) (result : Result T Refusal) → AdmitsCase job m r (Ok k) → AnswersCase taken counts job.way a k out out' result → WritesOver taken counts job a r out out' result
+  pub over_answered : (k : CaseData) (out out' : K) (result : Result T Refusal) → AdmitsCase job m r (Ok k) → AnswersCase taken counts job.query a k out out' result → WritesOver taken counts job a r out out' result
   over_answered k out out' result admits h = by result h
     where
       same : k ≡ case_of (cut a) r job.precision
       same = admits.0 ∙ ap (λ (n : ModelData). case_of n r job.precision) is
 
-      by : (result : Result T Refusal) → AnswersCase taken counts job.way a k out out' result → WritesOver taken counts job a r out out' result
-      by (Ok x) h = subst (λ (c : CaseData). IsAnswered (taken out) (taken out') job.way a c) same h
-      by (Err refusal.WriteFault) h = (subst (λ (c : CaseData). IsAnsweredInPart (taken out) (taken out') job.way a c) same h.0, h.1)
+      by : (result : Result T Refusal) → AnswersCase taken counts job.query a k out out' result → WritesOver taken counts job a r out out' result
+      by (Ok x) h = subst (λ (c : CaseData). IsAnswered (taken out) (taken out') job.query a c) same h
+      by (Err refusal.WriteFault) h = (subst (λ (c : CaseData). IsAnsweredInPart (taken out) (taken out') job.query a c) same h.0, h.1)
       by (Err refusal.Memory) h = h
-      by (Err refusal.TooWide) h = (subst (IsTooWide job.way) same h.0, h.1)
+      by (Err refusal.TooWide) h = (subst (IsTooWide job.query) same h.0, h.1)
       by (Err _) h = absurd h
 
   -- memory ran out before anything was written
@@ -152,7 +152,7 @@ module _ {K T : Type 0} (taken : K → Option (List ℕ)) (counts : K → ℕ) (
       by _ h = absurd h
 
 -- a whole job, by what was written over the root
-module _ {S : Type 0} (left : S → Option (List ℕ)) (faults : S → ℕ) (job : VerifyData) (source source' : S) (f : CostedModel) (r : Region) (read : ReadsModel left faults job source source' (Ok f)) (chain : lacks_chain job.way f.model.kind ≡ false) (named : region f.model.names job.depth job.region ≡ Ok r) where
+module _ {S : Type 0} (left : S → Option (List ℕ)) (faults : S → ℕ) (job : VerifyData) (source source' : S) (f : CostedModel) (r : Region) (read : ReadsModel left faults job source source' (Ok f)) (chain : lacks_chain job.query f.model.kind ≡ false) (named : region f.model.names job.depth job.region ≡ Ok r) where
   makes : (P : AskedModel → CaseData → Type 0) → ((a : AskedModel) → f.model ≡ cut a → f.costs ≡ a.costs → P a (case_of (cut a) r job.precision)) → WasRead (Makes P job) (left source) (left source')
   makes P h =
       read_as (λ text is. record {
@@ -170,8 +170,8 @@ module _ {S : Type 0} (left : S → Option (List ℕ)) (faults : S → ℕ) (job
   over_cut why h = over why (subst (λ (n : ModelData). IsRefusedOver job n (Ok r) why) (sym read.has.after) h)
 
   pub verified : {K T : Type 0} (taken : K → Option (List ℕ)) (counts : K → ℕ) (out out' : K) (result : Result T Refusal) → ((a : AskedModel) → f.model ≡ cut a → f.costs ≡ a.costs → WritesOver taken counts job a r out out' result) → Verifies left faults taken counts job source source' out out' result
-  verified taken counts out out' (Ok x) h = makes (IsAnswered (taken out) (taken out') job.way) h
-  verified taken counts out out' (Err refusal.WriteFault) h = (makes (IsAnsweredInPart (taken out) (taken out') job.way) (λ a is paid. (h a is paid).0), (h read.has.asked read.has.after read.has.costs).1)
+  verified taken counts out out' (Ok x) h = makes (IsAnswered (taken out) (taken out') job.query) h
+  verified taken counts out out' (Err refusal.WriteFault) h = (makes (IsAnsweredInPart (taken out) (taken out') job.query) (λ a is paid. (h a is paid).0), (h read.has.asked read.has.after read.has.costs).1)
   verified taken counts out out' (Err refusal.Memory) h = (tt, h read.has.asked read.has.after read.has.costs)
   verified taken counts out out' (Err (refusal.Rows error)) h = (let there = h read.has.asked read.has.after read.has.costs in (over_cut (refusal.Rows error) there.0, there.1))
   verified taken counts out out' (Err refusal.TooWide) h = (let there = h read.has.asked read.has.after read.has.costs in (over_cut refusal.TooWide there.0, there.1))

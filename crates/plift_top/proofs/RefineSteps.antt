@@ -17,12 +17,12 @@ use Rattle.lift_rows.specs.Fault.{IsFirstFault}
 use Rattle.lift_finer.specs.Finer.{finer_region, finer_spans, finer_within, is_small}
 use Rattle.region_tree.specs.Bases.{IsRefined}
 use Rattle.cert_text.specs.Head.{HeadData, least_precision}
-use Rattle.cert_text.specs.Laws.{TextsTellOneReport, text_of, told_lines}
+use Rattle.cert_text.specs.Laws.{TextsTellOneReport, text_of, reported_lines}
 use Rattle.cert_text.specs.Cut.{CutsHead, top_bytes}
 use Rattle.cert_text.specs.Report.{report_text, tree_lines}
 use Rattle.cert_check.specs.Sound.{IsSound, IsSoundFile}
 use Rattle.cert_check.specs.Answer.{Answers}
-use Rattle.cert_check.specs.Shown.{IsToldOfFile, Says}
+use Rattle.cert_check.specs.Shown.{IsReportedOfFile, Says}
 use Rattle.cert_check.specs.Source.{file_limit}
 use Rattle.cert_check.specs.declared.summary.Summary.{Summary}
 use Rattle.cert_check.specs.declared.error.CheckError.{CheckError}
@@ -47,19 +47,19 @@ within_some n depth r x is = within_by (is_small (r.d *ℤ pos n) && list_all is
 
 -- the region of a head, as it is told
 module _ (h : HeadData) (grid : Grid) (spans : Spans) (d : grid.d ≡ h.asked.d) (first : grid.depth ≡ h.asked.depth) (root : spans ≡ h.asked.root) where
-  told_region : region_of (grid, spans) ≡ region_in h
-  told_region = λ i. record { d = d i; depth = first i; spans = root i }
+  reported_region : region_of (grid, spans) ≡ region_in h
+  reported_region = λ i. record { d = d i; depth = first i; spans = root i }
 
-  told_within : (depth : ℕ) → finer_within (2 ^ (depth - grid.depth)) depth (region_of (grid, spans)) ≡ finer_within (finer_by depth h) depth (region_in h)
-  told_within depth = ap₂ (λ (f : ℕ) (r : Region). finer_within (2 ^ (depth - f)) depth r) first told_region
+  stated_within : (depth : ℕ) → finer_within (2 ^ (depth - grid.depth)) depth (region_of (grid, spans)) ≡ finer_within (finer_by depth h) depth (region_in h)
+  stated_within depth = ap₂ (λ (f : ℕ) (r : Region). finer_within (2 ^ (depth - f)) depth r) first reported_region
 
   pub gives_region : (depth : ℕ) (p : Grid × Spans) → h.asked.depth < depth → Some (region_of p) ≡ finer_within (2 ^ (depth - grid.depth)) depth (region_of (grid, spans)) → GivesRegion depth h (Ok p)
   gives_region depth p above is =
-      let (same, some) = within_some (finer_by depth h) depth (region_in h) (region_of p) (is ∙ told_within depth) in
+      let (same, some) = within_some (finer_by depth h) depth (region_in h) (region_of p) (is ∙ stated_within depth) in
       (above, λ lacks. elim lacks [ inl low ↦ absurd (omega (arith, above, low)) | inr none ↦ some none ], same)
 
   pub lacks_region : (depth : ℕ) → None ≡ finer_within (2 ^ (depth - grid.depth)) depth (region_of (grid, spans)) → GivesRegion depth h (Err (refusal.Usage Depth))
-  lacks_region depth is = (refl, inr (sym (is ∙ told_within depth)))
+  lacks_region depth is = (refl, inr (sym (is ∙ stated_within depth)))
 
 -- memory ran out
 pub region_short : (depth : ℕ) (h : HeadData) (result : Result (Grid × Spans) Refusal) → IsErrAnd result (λ e. e ≡ refusal.Memory) → GivesRegion depth h result
@@ -118,7 +118,7 @@ module _ {K : Type 0} (taken : K → Option (List ℕ)) (counts : K → ℕ) (de
 -- trees of one text are the same
 one_tree : TextsTellOneReport → (h : HeadData) (left : List ℕ) (t s : Tree) → IsOldTree h left t → IsOldTree h left s → t ≡ s
 one_tree same h left t s one other =
-    let texts : text_of h t ++ [] ≡ text_of h s ++ [] = ap (λ (l : List ℕ). (concat (told_lines h) ++ l) ++ []) (sym one.text ∙ other.text) in
+    let texts : text_of h t ++ [] ≡ text_of h s ++ [] = ap (λ (l : List ℕ). (concat (reported_lines h) ++ l) ++ []) (sym one.text ∙ other.text) in
     (same h h t s [] [] one.sound.report other.sound.report texts).1
 
 -- what was written
@@ -145,21 +145,21 @@ old_written same law {K} taken counts depth h p k left t out out' result g admit
 -- ---- a text
 
 module _ {K : Type 0} (taken : K → Option (List ℕ)) (counts : K → ℕ) (depth : ℕ) (out : K) (text : List ℕ) where
-  stopped_by : (error : CheckError) → Says {X = Summary} (λ s. s) (Answers text) (Err error) → IsToldOfFile error → RefinesText {T = Unit {0}} taken counts depth text out out (Err (check_refusal error))
-  stopped_by check.Memory says told = refl
-  stopped_by check.Fault says told = absurd told
-  stopped_by check.TooLong says told = absurd told
-  stopped_by (check.Text e) says told = (says (λ k. absurd (cc)), refl)
-  stopped_by (check.Rows e) says told = (says (λ k. absurd (cc)), refl)
-  stopped_by (check.Missed node miss) says told = (says (λ k. absurd (cc)), refl)
-  stopped_by (check.Depth node) says told = (says (λ k. absurd (cc)), refl)
-  stopped_by (check.Axis node) says told = (says (λ k. absurd (cc)), refl)
-  stopped_by check.Rest says told = (says (λ k. absurd (cc)), refl)
+  stopped_by : (error : CheckError) → Says {X = Summary} (λ s. s) (Answers text) (Err error) → IsReportedOfFile error → RefinesText {T = Unit {0}} taken counts depth text out out (Err (check_refusal error))
+  stopped_by check.Memory says reported = refl
+  stopped_by check.Fault says reported = absurd reported
+  stopped_by check.TooLong says reported = absurd reported
+  stopped_by (check.Text e) says reported = (says (λ k. absurd (cc)), refl)
+  stopped_by (check.Rows e) says reported = (says (λ k. absurd (cc)), refl)
+  stopped_by (check.Missed node miss) says reported = (says (λ k. absurd (cc)), refl)
+  stopped_by (check.Depth node) says reported = (says (λ k. absurd (cc)), refl)
+  stopped_by (check.Axis node) says reported = (says (λ k. absurd (cc)), refl)
+  stopped_by check.Rest says reported = (says (λ k. absurd (cc)), refl)
 
   -- a text that isn't sound
-  pub text_stopped : (error : CheckError) (result : Result (Unit {0}) Refusal) → IsErrAnd result (λ e. e ≡ check_refusal error) → Says {X = Summary} (λ s. s) (Answers text) (Err error) → IsToldOfFile error → RefinesText taken counts depth text out out result
-  text_stopped error (Ok x) is says told = absurd is
-  text_stopped error (Err e) is says told = subst (λ (r : Refusal). RefinesText {T = Unit {0}} taken counts depth text out out (Err r)) (sym is) (stopped_by error says told)
+  pub text_stopped : (error : CheckError) (result : Result (Unit {0}) Refusal) → IsErrAnd result (λ e. e ≡ check_refusal error) → Says {X = Summary} (λ s. s) (Answers text) (Err error) → IsReportedOfFile error → RefinesText taken counts depth text out out result
+  text_stopped error (Ok x) is says reported = absurd is
+  text_stopped error (Err e) is says reported = subst (λ (r : Refusal). RefinesText {T = Unit {0}} taken counts depth text out out (Err r)) (sym is) (stopped_by error says reported)
 
   -- want of memory
   pub text_short : (result : Result (Unit {0}) Refusal) → IsErrAnd result (λ e. e ≡ refusal.Memory) → RefinesText taken counts depth text out out result
@@ -187,8 +187,8 @@ module _ (text : List ℕ) (leaves : Summary) (file : IsSoundFile text leaves) (
   text_refined {K} taken counts depth out out' result each = by result (each file.tree old_at)
     where
       by : (result : Result (Unit {0}) Refusal) → RefinesOld taken counts depth h file.tree out out' result → RefinesText taken counts depth text out out' result
-      by (Ok x) (fit, told) = record { head = h; tree = file.tree; old = sound_text; fitting = fit; told = told }
-      by (Err refusal.WriteFault) (fit, part, rose) = (record { head = h; tree = file.tree; old = sound_text; fitting = fit; told = part }, rose)
+      by (Ok x) (fit, reported) = record { head = h; tree = file.tree; old = sound_text; fitting = fit; reported = reported }
+      by (Err refusal.WriteFault) (fit, part, rose) = (record { head = h; tree = file.tree; old = sound_text; fitting = fit; reported = part }, rose)
       by (Err refusal.Memory) same = same
       by (Err (refusal.Usage f)) (is, same) = ((h, file.tree, sound_text, is), same)
       by (Err (refusal.Rows error)) (is, same) = ((h, file.tree, sound_text, is), same)

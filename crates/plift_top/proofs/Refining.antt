@@ -32,24 +32,24 @@ use Rattle.region_tree.specs.declared.visitor.Seen.{Seen}
 use Rattle.region_tree.specs.declared.visitor.Seen.TheVariants.{Kept, Failed}
 use Rattle.cert_text.specs.Head.{HeadData, least_precision, version}
 use Rattle.cert_text.specs.Forms.{IsHead, IsNode, IsTree}
-use Rattle.cert_text.specs.Laws.{text_of, told_lines}
+use Rattle.cert_text.specs.Laws.{text_of, reported_lines}
 use Rattle.cert_text.specs.Report.{line, version_words, model_lines, asked_lines, from_lines, top_lines, region_lines, head_lines, report_text, tree_lines, split_line, at_lines, accept_line, reject_lines, unknown_line}
 use Rattle.cert_text.specs.Nodes as text
 use Rattle.cert_text.specs.Cut.{node_bytes, top_bytes, IsSplitOn, IsAcceptOf, IsRejectOf, IsOpenLeaf}
 use Rattle.cert_check.specs.Sound.{IsSound, IsSoundTree, IsSoundFile}
-use Rattle.cert_check.specs.Laws.{CanBeTold, SoundTreesAreReports}
+use Rattle.cert_check.specs.Laws.{CanBeReported, SoundTreesAreReports}
 use Rattle.plift_top.specs.Laws.{RefinedReportsAreSound}
 use Rattle.plift_top.specs.RightReport.{node_text}
-use Rattle.plift_top.specs.Refine.{deeper_head, finer_by, RefinesTree, IsRefinedTree, IsOldTree, IsOld, CanGoOn, IsRefinedText, IsRefinedWhole, WritesRefined, told_node, IsAhead}
+use Rattle.plift_top.specs.Refine.{deeper_head, finer_by, RefinesTree, IsRefinedTree, IsOldTree, IsOld, CanGoOn, IsRefinedText, IsRefinedWhole, WritesRefined, reported_node, IsAhead}
 use Rattle.plift_top.specs.declared.refusal.Refusal.{Refusal}
 use Rattle.plift_top.specs.declared.refusal.Refusal.TheVariants as refusal
 use Rattle.plift_top.proofs.Leaves.{entries_are}
-use Rattle.plift_top.proofs.Soundness.{can_be_told}
+use Rattle.plift_top.proofs.Soundness.{can_be_reported}
 use Rattle.plift_top.proofs.Telling.{front_of, front_then}
 
 -- ---- the text of a node
 
-node_is : (h : HeadData) (n : Node) → node_text h.asked h.from n ≡ node_bytes h (told_node n)
+node_is : (h : HeadData) (n : Node) → node_text h.asked h.from n ≡ node_bytes h (reported_node n)
 node_is h (split-node axis) = sym (append-nil (split_line axis))
 node_is h (accept-node u x) =
     ap (λ (l : List ℕ). concat (at_lines h.from u) ++ l) (sym (append-nil (accept_line x))) ∙ sym (concat-append (at_lines h.from u) (accept_line x ∷ []))
@@ -59,32 +59,32 @@ node_is h unknown-node = sym (append-nil unknown_line)
 -- ---- a text as a base
 
 -- a node that is ahead is cut off, and then what came after it is ahead
-pub cut : (h : HeadData) (left rest : List ℕ) (Told : HeadData → text.Node → Type 0) → ((g : HeadData) (n : text.Node) (more : List ℕ) → IsHead g → IsNode g n → left ≡ node_bytes g n ++ more → Told g n × (rest ≡ more))
-    → (n : Node) (ns : List Node) → IsAhead h left (n ∷ ns) → Told h (told_node n) × IsAhead h rest ns
-cut h left rest Told cuts n ns ahead =
+pub cut : (h : HeadData) (left rest : List ℕ) (Statement : HeadData → text.Node → Type 0) → ((g : HeadData) (n : text.Node) (more : List ℕ) → IsHead g → IsNode g n → left ≡ node_bytes g n ++ more → Statement g n × (rest ≡ more))
+    → (n : Node) (ns : List Node) → IsAhead h left (n ∷ ns) → Statement h (reported_node n) × IsAhead h rest ns
+cut h left rest Statement cuts n ns ahead =
     let more = flat_map (node_text h.asked h.from) ns in
-    let c = cuts h (told_node n) more ahead.head ahead.fit.0 (ahead.text ∙ ap (λ (l : List ℕ). l ++ more) (node_is h n)) in
+    let c = cuts h (reported_node n) more ahead.head ahead.fit.0 (ahead.text ∙ ap (λ (l : List ℕ). l ++ more) (node_is h n)) in
     (c.0, record { head = ahead.head; fit = ahead.fit.1; text = c.1 })
 
-pub given_split : (h : HeadData) (n : Node) (i : ℕ) (bytes : List ℕ) → IsSplitOn (told_node n) i → IsGiven (node_text h.asked h.from) n (given.Split i) bytes
+pub given_split : (h : HeadData) (n : Node) (i : ℕ) (bytes : List ℕ) → IsSplitOn (reported_node n) i → IsGiven (node_text h.asked h.from) n (given.Split i) bytes
 given_split h (split-node axis) i bytes is = is
 given_split h (accept-node u x) i bytes is = absurd is
 given_split h (reject-node u r) i bytes is = absurd is
 given_split h unknown-node i bytes is = absurd is
 
-pub given_accept : (h : HeadData) (n : Node) (bytes : List ℕ) → IsAcceptOf h (told_node n) bytes → IsGiven (node_text h.asked h.from) n given.Accept bytes
+pub given_accept : (h : HeadData) (n : Node) (bytes : List ℕ) → IsAcceptOf h (reported_node n) bytes → IsGiven (node_text h.asked h.from) n given.Accept bytes
 given_accept h (accept-node u x) bytes is = is ∙ sym (node_is h (accept-node u x))
 given_accept h (split-node axis) bytes is = absurd is
 given_accept h (reject-node u r) bytes is = absurd is
 given_accept h unknown-node bytes is = absurd is
 
-pub given_reject : (h : HeadData) (n : Node) (bytes : List ℕ) → IsRejectOf h (told_node n) bytes → IsGiven (node_text h.asked h.from) n given.Reject bytes
+pub given_reject : (h : HeadData) (n : Node) (bytes : List ℕ) → IsRejectOf h (reported_node n) bytes → IsGiven (node_text h.asked h.from) n given.Reject bytes
 given_reject h (reject-node u r) bytes is = is ∙ sym (node_is h (reject-node u r))
 given_reject h (split-node axis) bytes is = absurd is
 given_reject h (accept-node u x) bytes is = absurd is
 given_reject h unknown-node bytes is = absurd is
 
-pub given_unknown : (h : HeadData) (n : Node) (bytes : List ℕ) → IsOpenLeaf (told_node n) → IsGiven (node_text h.asked h.from) n given.Unknown bytes
+pub given_unknown : (h : HeadData) (n : Node) (bytes : List ℕ) → IsOpenLeaf (reported_node n) → IsGiven (node_text h.asked h.from) n given.Unknown bytes
 given_unknown h unknown-node bytes is = tt
 given_unknown h (split-node axis) bytes is = absurd is
 given_unknown h (accept-node u x) bytes is = absurd is
@@ -96,8 +96,8 @@ every : {A : Type 0} (P : A → Type 0) (xs ys : List A) → AllByRecursion P xs
 every P [] ys h g = g
 every P (x ∷ xs) ys h g = (h.0, every P xs ys h.1 g)
 
-nodes_fit : (h : HeadData) (t : Tree) → IsTree h t → AllByRecursion (λ n. IsNode h (told_node n)) (nodes t)
-nodes_fit h (split axis lower upper) fit = (fit.0, every (λ n. IsNode h (told_node n)) (nodes lower) (nodes upper) (nodes_fit h lower fit.1) (nodes_fit h upper fit.2))
+nodes_fit : (h : HeadData) (t : Tree) → IsTree h t → AllByRecursion (λ n. IsNode h (reported_node n)) (nodes t)
+nodes_fit h (split axis lower upper) fit = (fit.0, every (λ n. IsNode h (reported_node n)) (nodes lower) (nodes upper) (nodes_fit h lower fit.1) (nodes_fit h upper fit.2))
 nodes_fit h (accept u x) fit = (fit, tt)
 nodes_fit h (reject u r) fit = (fit, tt)
 nodes_fit h unknown fit = (fit, tt)
@@ -158,13 +158,13 @@ least_between k bound h left v can is least =
     (omega (arith, is.range.0, least), omega (arith, is.range.1, least, w))
 
 -- what a walk showed to a reporter went to its sink
-pub shown : {R K : Type 0} (out : R → K) (k : CaseData) (bound : Bound) (t : Tree) (taken : K → Option (List ℕ)) (faults : K → ℕ) (old new : R) (seen : Seen) (v least : ℕ) (told from : Option ℕ) → v ≡ least → told ≡ from
-    → Shows {V = R} (λ refined. IsRefined k v bound k.root 0 t refined) (λ r. taken (out r)) (λ r. faults (out r)) (node_text k told) old new seen
+pub shown : {R K : Type 0} (out : R → K) (k : CaseData) (bound : Bound) (t : Tree) (taken : K → Option (List ℕ)) (faults : K → ℕ) (old new : R) (seen : Seen) (v least : ℕ) (reported from : Option ℕ) → v ≡ least → reported ≡ from
+    → Shows {V = R} (λ refined. IsRefined k v bound k.root 0 t refined) (λ r. taken (out r)) (λ r. faults (out r)) (node_text k reported) old new seen
     → Shows {V = K} (λ refined. IsRefined k least bound k.root 0 t refined) taken faults (node_text k from) (out old) (out new) seen
-shown {R} {K} out k bound t taken faults old new seen v least told from v_is from_is w =
+shown {R} {K} out k bound t taken faults old new seen v least reported from v_is from_is w =
     let Is : ℕ → Option ℕ → Type 0 = λ v from. Shows {V = K} (λ refined. IsRefined k v bound k.root 0 t refined) taken faults (node_text k from) (out old) (out new) seen in
-    let here : Is v told = record { tree = w.tree; took = w.took; cause = w.cause; later = w.later } in
-    subst (λ (f : Option ℕ). Is least f) from_is (subst (λ (u : ℕ). Is u told) v_is here)
+    let here : Is v reported = record { tree = w.tree; took = w.took; cause = w.cause; later = w.later } in
+    subst (λ (f : Option ℕ). Is least f) from_is (subst (λ (u : ℕ). Is u reported) v_is here)
 
 -- ---- the head at a greater depth
 
@@ -235,8 +235,8 @@ module _ {K : Type 0} (k : CaseData) (bound : Bound) (h : HeadData) (left : List
         later = omega (arith, v.later, first.later);
       }
 
-  pub all_told : {T E U F : Type 0} (old mid new : K) (x : T) (y : U) → Wrote {E = E} taken faults old mid (Ok x) (concat (head_lines k h.from bound)) → Walked mid new Kept → WroteSome {E = F} (IsRefinedText k h left) taken faults old new (Ok y)
-  all_told old mid new x y w walked =
+  pub all_reported : {T E U F : Type 0} (old mid new : K) (x : T) (y : U) → Wrote {E = E} taken faults old mid (Ok x) (concat (head_lines k h.from bound)) → Walked mid new Kept → WroteSome {E = F} (IsRefinedText k h left) taken faults old new (Ok y)
+  all_reported old mid new x y w walked =
       let v = head_wrote w in
       let first = at_bound walked can.old.0 can.old.1 in
       let t = first.tree refl in
@@ -251,14 +251,14 @@ module _ {K : Type 0} (k : CaseData) (bound : Bound) (h : HeadData) (left : List
 -- ---- the laws of a refined tree
 
 module _ (fits : HeightFits) (lowers : LowerPrecisionIsCase) (depth : ℕ) (h : HeadData) (is : IsHead h) (case : IsCase (deeper_head depth h).asked) where
-  refined_told : (spans : Spans) (place : ℕ) (t refined : Tree) → IsTree h t → IsRefined (deeper_head depth h).asked (least_precision h) h.bound spans place t refined → CanBeTold (deeper_head depth h) refined
-  refined_told spans place (split axis lower upper) (split other low up) fit r = (refined_told (lower_half axis spans) (place + 1) lower low fit.1 r.1, refined_told (upper_half axis spans) (place + 1) upper up fit.2 r.2)
-  refined_told spans place (split axis lower upper) (accept u x) fit r = absurd r
-  refined_told spans place (split axis lower upper) (reject u q) fit r = absurd r
-  refined_told spans place (split axis lower upper) unknown fit r = absurd r
-  refined_told spans place (accept u x) refined fit r = subst (CanBeTold (deeper_head depth h)) r fit.0
-  refined_told spans place (reject u q) refined fit r = subst (CanBeTold (deeper_head depth h)) r (fit.0, fit.1.rate.2)
-  refined_told spans place unknown refined fit r = can_be_told fits lowers (deeper_head depth h).asked h.from h.bound case is.range.0 spans place refined r
+  refined_reported : (spans : Spans) (place : ℕ) (t refined : Tree) → IsTree h t → IsRefined (deeper_head depth h).asked (least_precision h) h.bound spans place t refined → CanBeReported (deeper_head depth h) refined
+  refined_reported spans place (split axis lower upper) (split other low up) fit r = (refined_reported (lower_half axis spans) (place + 1) lower low fit.1 r.1, refined_reported (upper_half axis spans) (place + 1) upper up fit.2 r.2)
+  refined_reported spans place (split axis lower upper) (accept u x) fit r = absurd r
+  refined_reported spans place (split axis lower upper) (reject u q) fit r = absurd r
+  refined_reported spans place (split axis lower upper) unknown fit r = absurd r
+  refined_reported spans place (accept u x) refined fit r = subst (CanBeReported (deeper_head depth h)) r fit.0
+  refined_reported spans place (reject u q) refined fit r = subst (CanBeReported (deeper_head depth h)) r (fit.0, fit.1.rate.2)
+  refined_reported spans place unknown refined fit r = can_be_reported fits lowers (deeper_head depth h).asked h.from h.bound case is.range.0 spans place refined r
 
 pub refined_sound : HeightFits → LowerPrecisionIsCase → SoundTreesAreReports → RootIsAtDepth → CertifiedTreesAreBases → BasesWithRightTreesAreCertified → RefinedRightTrees → RefinedReportsAreSound
 refined_sound fits lowers reports roots bases certified rights depth h t refined s le case r =
@@ -268,9 +268,9 @@ refined_sound fits lowers reports roots bases certified rights depth h t refined
     let some : 1 ≤ finer_by depth h = omega (arith, pow_pos (depth - h.asked.depth)) in
     let head : IsHead new = record { asked = case.asked; names = s.report.head.names; entries = s.report.head.entries; bound = s.report.head.bound; range = s.report.head.range } in
     let tree : IsSoundTree k h.bound k.root 0 refined = certified k v h.bound k.root 0 t refined (base_of bases roots depth h t s le) r in
-    let told = refined_told fits lowers depth h s.report.head case k.root 0 t refined s.report.nodes r in
+    let reported = refined_reported fits lowers depth h s.report.head case k.root 0 t refined s.report.nodes r in
     record {
       refines = r;
-      sound = record { head = new; tree = refined; sound = reports new refined head case.admitted tree told; text = refl; counts = refl };
+      sound = record { head = new; tree = refined; sound = reports new refined head case.admitted tree reported; text = refl; counts = refl };
       right = λ right. rights h.asked (finer_by depth h) depth v h.bound t refined (old_case h t s) some le right r;
     }

@@ -21,8 +21,8 @@ use Rattle.plift_top.specs.declared.refusal.Refusal.TheVariants as refusal
 
 -- a text tells one report
 module _ (same : TextsTellOneReport) (bytes : List ℕ) (h g : HeadData) (t s : Tree) (one : IsSoundText bytes h t) (other : IsSoundText bytes g s) where
-  told_once : (h ≡ g) × (t ≡ s)
-  told_once =
+  reported_once : (h ≡ g) × (t ≡ s)
+  reported_once =
       let both = same h g t s [] [] one.sound.report other.sound.report (append-nil (text_of h t) ∙ sym one.text ∙ other.text ∙ sym (append-nil (text_of g s))) in
       (both.0, both.1)
 
@@ -40,9 +40,9 @@ unsound_status depth bytes bad _ (h, t, old, is) = absurd is
 -- the report that was written is the right one where that which was read is
 pub refines_right : TextsTellOneReport → (old new : Option (List ℕ)) (depth : ℕ) (bytes : List ℕ) → IsRefinedTo old new depth bytes → RefinesRight old new depth bytes
 refines_right same old new depth bytes r h t is right =
-    let once = told_once same bytes h r.head t r.tree is r.old in
+    let once = reported_once same bytes h r.head t r.tree is r.old in
     let there : IsRightTree r.head.asked (least_precision r.head) r.head.bound r.tree = subst (λ (s : Tree). IsRightTree r.head.asked (least_precision r.head) r.head.bound s) once.1 (subst (λ (g : HeadData). IsRightTree g.asked (least_precision g) g.bound t) once.0 right) in
-    let (refined, holds, text) = r.told in
+    let (refined, holds, text) = r.reported in
     subst (λ (g : HeadData). (tree : Tree) × IsRightTree (deeper_head depth g).asked (least_precision g) g.bound tree × Appends old new (text_of (deeper_head depth g) tree)) (sym once.0) (refined, holds.right there, text)
 
 -- a sound report has no first fault
@@ -55,11 +55,11 @@ never_faulty pass one bytes h t old error answers =
 -- what refuses it is said of its own head
 module _ (same : TextsTellOneReport) (depth : ℕ) (bytes : List ℕ) (h : HeadData) (t : Tree) (old : IsSoundText bytes h t) where
   at_own : (why : Refusal) → ((g : HeadData) × (s : Tree) × IsSoundText bytes g s × IsRefusedAtDepth depth g why) → IsRefusedAtDepth depth h why
-  at_own why (g, s, there, is) = subst (λ (x : HeadData). IsRefusedAtDepth depth x why) (sym (told_once same bytes h g t s old there).0) is
+  at_own why (g, s, there, is) = subst (λ (x : HeadData). IsRefusedAtDepth depth x why) (sym (reported_once same bytes h g t s old there).0) is
 
   -- and so is what was written
   own_fitting : (was now : Option (List ℕ)) → IsRefinedTo was now depth bytes → IsFitting depth h
-  own_fitting was now r = subst (IsFitting depth) (sym (told_once same bytes h r.head t r.tree old r.old).0) r.fitting
+  own_fitting was now r = subst (IsFitting depth) (sym (reported_once same bytes h r.head t r.tree old r.old).0) r.fitting
 
   pub lacking_done : (was now : Option (List ℕ)) → LacksDepth depth h → IsRefinedTo was now depth bytes → ⊥
   lacking_done was now lacks r = (own_fitting was now r).fits lacks

@@ -17,7 +17,7 @@ use Rattle.region_tree.specs.Visits.{Visits, Walks, entries}
 use Rattle.region_tree.specs.declared.visitor.Seen.{Seen}
 use Rattle.region_tree.specs.declared.visitor.Seen.TheVariants.{Kept, Failed}
 use Rattle.cert_text.specs.Report.{head_lines, report_text}
-use Rattle.plift_words.specs.declared.way.Way.TheVariants as way
+use Rattle.plift_words.specs.declared.query.Query.TheVariants as query
 use Rattle.plift_top.specs.Asked.{uncut}
 use Rattle.plift_top.specs.RightReport.{IsRange, IsRightReport, least, node_text}
 use Rattle.plift_top.specs.Steps.{IsTestedCase, WritesCase}
@@ -82,9 +82,9 @@ module _ {K : Type 0} (k : CaseData) (from : Option ℕ) (bound : Bound) (taken 
   }
 
   -- all was written
-  pub all_told : {T E U F : Type 0} (old mid new : K) (x : T) (y : U) → Wrote {E = E} taken faults old mid (Ok x) head → Walks k (least k from) k.root bound 0 taken faults (node_text k from) mid new Kept
+  pub all_reported : {T E U F : Type 0} (old mid new : K) (x : T) (y : U) → Wrote {E = E} taken faults old mid (Ok x) head → Walks k (least k from) k.root bound 0 taken faults (node_text k from) mid new Kept
       → WroteSome {E = F} (IsRightReport k from bound) taken faults old new (Ok y)
-  all_told old mid new x y w walked = record {
+  all_reported old mid new x y w walked = record {
     some = (let t = walked.tree refl in (report_text k from bound t.0, (t.0, t.1, refl)));
     whole = λ bytes. by_entries (Appends (taken old) (taken new)) bytes (λ tree right. Appends-trans (taken old) (taken mid) (taken new) head (entries (node_text k from) tree) w.whole (walked.took tree right));
     part = tt;
@@ -97,7 +97,7 @@ module _ {K : Type 0} (k : CaseData) (from : Option ℕ) (bound : Bound) (taken 
 -- what is said of a case's report holds
 pub reported : AcceptingBounds → RejectingReaches → LowerPrecisionIsCase → RootIsAtDepth → HalvesAreDeeper → RightTreesTile
     → {K : Type 0} (taken : K → Option (List ℕ)) (faults : K → ℕ) (k : CaseData) (from : Option ℕ) (bound : Bound) (old new : K) (result : Written) → IsTestedCase k → IsRange k from
-    → WroteSome (IsRightReport k from bound) taken faults old new result → WritesCase taken faults (way.Whole bound from) (uncut k.model) k old new result
+    → WroteSome (IsRightReport k from bound) taken faults old new result → WritesCase taken faults (query.Whole bound from) (uncut k.model) k old new result
 reported accepting reached lower root deeper tile taken faults k from bound old new (Ok x) case range w =
     let tree = w.some.1.0 in
     let right = w.some.1.1 in

@@ -15,10 +15,10 @@ use Rattle.region_tree.specs.Laws.{RightTreesAreOne}
 use Rattle.drn_read.specs.declared.error.DrnError.{DrnError}
 use Rattle.model_gen.specs.Ladder.{most_blocks, ladder_text, ladder, ladder_region, ladder_region_text, ladder_depth, ladder_precision, ladder_case}
 use Rattle.model_gen.specs.Laws.{TextIsShort, TextIsLadder, LadderIsCase, TextNamesRegion}
-use Rattle.cert_text.specs.Forms.{IsToldBound}
+use Rattle.cert_text.specs.Forms.{IsReportedBound}
 use Rattle.cert_check.specs.Sound.{IsSoundFile, leaf_counts}
 use Rattle.cert_check.specs.Laws.{SoundFilesPass}
-use Rattle.cert_check.specs.Source.{AnswersTold, file_limit, report_limit}
+use Rattle.cert_check.specs.Source.{AnswersReported, file_limit, report_limit}
 use Rattle.cert_check.specs.declared.summary.Summary.{Summary}
 use Rattle.cert_check.specs.declared.error.CheckError.{CheckError}
 use Rattle.cert_check.specs.declared.error.CheckError.TheVariants as check
@@ -40,8 +40,8 @@ pub half_is_bound : IsBound (record { num = 1; den = 2 })
 unfolding gcd
 half_is_bound = record { lowest = refl; most = omega arith; positive = omega arith }
 
-pub half_is_told : IsToldBound one_half
-half_is_told = record { parts = half_is_bound; small = omega arith }
+pub half_is_reported : IsReportedBound one_half
+half_is_reported = record { parts = half_is_bound; small = omega arith }
 
 -- a fault was counted where none was before
 pub counted : (now : ℕ) → Rose 0 now → 0 < now
@@ -72,7 +72,7 @@ module _ (n : ℕ) (some : 1 ≤ n) (few : n ≤ most_blocks) (texts : TextIsSho
 
   -- the report of its right tree is a sound file
   is_sound : RightReportsAreSound → (tree : Tree) → IsLadderTree n tree → IsSoundFile (ladder_report n tree) (leaf_counts 1 tree)
-  is_sound law tree right = law (ladder_text n) (codes "done") (ladder n) ladder_region ladder_precision None one_half tree (reads n some few) (cases n some few) (λ v e. absurd (cc)) half_is_told right
+  is_sound law tree right = law (ladder_text n) (codes "done") (ladder n) ladder_region ladder_precision None one_half tree (reads n some few) (cases n some few) (λ v e. absurd (cc)) half_is_reported right
 
   -- what was written, whole: a report that fits
   pub whole_report : RightReportsAreSound → (bytes : List ℕ) → Makes (λ a. IsReported (Some []) (Some bytes) None one_half) ladder_job (ladder_text n) → length bytes ≤ file_limit → IsLadderReport n bytes
@@ -112,24 +112,24 @@ module _ (n : ℕ) (some : 1 ≤ n) (few : n ≤ most_blocks) (texts : TextIsSho
   never none why h = never_refused none ladder_job (verified_model ladder_job (ladder_text n)) (ladder n) ladder_region (ap (λ (r : Result AskedModel DrnError). r >>= λ a. Ok (cut a)) (read_uncut ladder_job (ladder_text n) (ladder n) refl refl (reads n some few))) (names n) (cases n some few).admitted (refl, λ e. absurd (cc)) why h
 
   module _ {S K : Type 0} (source source' : S) (out out' : K) (left : S → Option (List ℕ)) (faults : S → ℕ) (taken : K → Option (List ℕ)) (counts : K → ℕ) (bytes : List ℕ)
-      (told : left source ≡ Some (ladder_text n)) (calm : faults source' ≡ 0) (empty : taken out ≡ Some []) (took : taken out' ≡ Some bytes) (none : counts out ≡ 0) where
+      (reported : left source ≡ Some (ladder_text n)) (calm : faults source' ≡ 0) (empty : taken out ≡ Some []) (took : taken out' ≡ Some bytes) (none : counts out ≡ 0) where
     -- what verifying the ladder came to, where its report was written
     pub verified_ladder : Verifies {T = Unit {0}} left faults taken counts ladder_job source source' out out' (Ok tt) → Makes (λ a. IsReported (Some []) (Some bytes) None one_half) ladder_job (ladder_text n)
-    verified_ladder v = given (Makes (λ a. IsReported (Some []) (Some bytes) None one_half) ladder_job) (ladder_text n) (left source') (rw (told, empty, took) at v)
+    verified_ladder v = given (Makes (λ a. IsReported (Some []) (Some bytes) None one_half) ladder_job) (ladder_text n) (left source') (rw (reported, empty, took) at v)
 
     -- where there was no room for it
     pub overflowed : Verifies {T = Unit {0}} left faults taken counts ladder_job source source' out out' (Err refusal.WriteFault) → Makes (λ a. IsCutOff (Some []) (Some bytes) None one_half) ladder_job (ladder_text n) × (0 < counts out')
-    overflowed v = (given (Makes (λ a. IsCutOff (Some []) (Some bytes) None one_half) ladder_job) (ladder_text n) (left source') (rw (told, empty, took) at v.0), counted (counts out') (rw none at v.1))
+    overflowed v = (given (Makes (λ a. IsCutOff (Some []) (Some bytes) None one_half) ladder_job) (ladder_text n) (left source') (rw (reported, empty, took) at v.0), counted (counts out') (rw none at v.1))
 
     -- else memory ran out
     pub stopped_short : AdmittedHasNoFault → (faults source ≡ 0) → (why : Refusal) → (why ≡ refusal.WriteFault → ⊥) → Verifies {T = Unit {0}} left faults taken counts ladder_job source source' out out' (Err why) → why ≡ refusal.Memory
     stopped_short law begin refusal.Memory other v = refl
     stopped_short law begin refusal.WriteFault other v = absurd (other refl)
     stopped_short law begin refusal.ReadFault other v = absurd (let h = v.0 in omega arith)
-    stopped_short law begin refusal.TooLong other v = absurd (short (ladder_text n) (left source') (let h = texts n few in omega arith) (rw told at v.0))
+    stopped_short law begin refusal.TooLong other v = absurd (short (ladder_text n) (left source') (let h = texts n few in omega arith) (rw reported at v.0))
     stopped_short law begin (refusal.Usage f) other v = absurd v.0
     stopped_short law begin (refusal.Unsound error) other v = absurd v.0
-    stopped_short law begin why other v = absurd (never law why (given (IsRefused ladder_job why) (ladder_text n) (left source') (rw told at v.0)))
+    stopped_short law begin why other v = absurd (never law why (given (IsRefused ladder_job why) (ladder_text n) (left source') (rw reported at v.0)))
 
     -- verifying the ladder failed: its report is too long, or memory ran out
     pub failed : AdmittedHasNoFault → (faults source ≡ 0) → (0 < counts out' → length bytes ≡ file_limit + 1) → (why : Refusal) → Verifies {T = Unit {0}} left faults taken counts ladder_job source source' out out' (Err why)
@@ -156,9 +156,9 @@ module _ (n : ℕ) (some : 1 ≤ n) (few : n ≤ most_blocks) (texts : TextIsSho
 -- ---- its check
 
 -- a sound file is found so, or memory runs out
-pub found : (bytes : List ℕ) (old new : ℕ) → SoundFilesPass → length bytes ≤ file_limit → (new ≡ 0) → (old ≡ 0) → (result : Result Summary CheckError) → AnswersTold report_limit (Some bytes) old new result → (leaves : Summary) → IsSoundFile bytes leaves
+pub found : (bytes : List ℕ) (old new : ℕ) → SoundFilesPass → length bytes ≤ file_limit → (new ≡ 0) → (old ≡ 0) → (result : Result Summary CheckError) → AnswersReported report_limit (Some bytes) old new result → (leaves : Summary) → IsSoundFile bytes leaves
     → (result ≡ Ok leaves) ⊎ (result ≡ Err check.Memory)
-found bytes old new pass fits calm begin result told leaves sound = told bytes (Ok leaves) refl (pass bytes leaves sound) (omega (arith, fits)) (λ rose. omega arith)
+found bytes old new pass fits calm begin result reported leaves sound = reported bytes (Ok leaves) refl (pass bytes leaves sound) (omega (arith, fits)) (λ rose. omega arith)
 
 -- what is told of a report that is sound: its leaves, or that memory ran out
 pub refused_check : (error : CheckError) (answer : Result Summary CheckError) → answer ≡ Err error → (result : Result Summary Refusal) → IsErrAnd result (λ e. e ≡ check_refusal error) → (leaves : Summary)
@@ -184,11 +184,11 @@ module _ {K : Type 0} (taken : K → Option (List ℕ)) (counts : K → ℕ) (n 
       by refusal.Memory h = refl
       by _ h = absurd h
 
-  module _ (bytes : List ℕ) (report : IsLadderReport n bytes) (answer : Result Summary Refusal) (told : (leaves : Summary) → IsSoundFile bytes leaves → (answer ≡ Ok leaves) ⊎ (answer ≡ Err refusal.Memory)) where
+  module _ (bytes : List ℕ) (report : IsLadderReport n bytes) (answer : Result Summary Refusal) (reported : (leaves : Summary) → IsSoundFile bytes leaves → (answer ≡ Ok leaves) ⊎ (answer ≡ Err refusal.Memory)) where
     -- its leaves weren't counted
     pub not_counted : (why : Refusal) → answer ≡ Err why → (result : Result (Unit {0}) Refusal) (out : K) → IsErrAnd result (λ e. e ≡ why) → Selftests taken counts n out out result
     not_counted why was (Ok x) out is = absurd is
-    not_counted why was (Err e) out is = by (told (leaf_counts 1 report.tree) report.sound)
+    not_counted why was (Err e) out is = by (reported (leaf_counts 1 report.tree) report.sound)
       where
         by : (answer ≡ Ok (leaf_counts 1 report.tree)) ⊎ (answer ≡ Err refusal.Memory) → Selftests {T = Unit {0}} taken counts n out out (Err e)
         by (inl found) = absurd (cc)
@@ -196,7 +196,7 @@ module _ {K : Type 0} (taken : K → Option (List ℕ)) (counts : K → ℕ) (n 
 
     -- the leaves are those of the ladder's right tree
     leaves_are : (leaves : Summary) → answer ≡ Ok leaves → leaves ≡ leaf_counts 1 report.tree
-    leaves_are leaves was = by (told (leaf_counts 1 report.tree) report.sound)
+    leaves_are leaves was = by (reported (leaf_counts 1 report.tree) report.sound)
       where
         by : (answer ≡ Ok (leaf_counts 1 report.tree)) ⊎ (answer ≡ Err refusal.Memory) → leaves ≡ leaf_counts 1 report.tree
         by (inl found) = cc

@@ -26,7 +26,7 @@ use Rattle.plift_top.specs.Refine.{IsRefusedDeeper, RefinesReport}
 use Rattle.plift_top.specs.Selftest.{HasLongReport, Selftests}
 use Rattle.cert_check.specs.Answer.{Answers}
 use Rattle.cert_check.specs.Source.{NoFault, file_limit, report_limit}
-use Rattle.line_text.specs.Met.{WasMet}
+use Rattle.line_text.specs.Found.{WasFound}
 use Rattle.check_notes.specs.declared.status.Status.{Status}
 use Rattle.check_notes.specs.declared.status.Status.TheVariants as status
 use Rattle.plift_top.specs.declared.refusal.Refusal.{Refusal}
@@ -143,7 +143,7 @@ HasCause refusal.WriteFault asked old new = ⊤
 HasCause refusal.TooLong asked old new = ⊤
 HasCause refusal.Memory asked old new = ⊤
 HasCause (refusal.Unsound error) asked old new =
-    (AsksToCheck asked × WasMet report_limit (λ bytes. Answers bytes (Err error)) old new)
+    (AsksToCheck asked × WasFound report_limit (λ bytes. Answers bytes (Err error)) old new)
     ⊎ ((AsksToMigrate asked × WasRead (IsRefusedFirst error) old new) ⊎ HasRefineCause (refusal.Unsound error) asked old new)
 HasCause (refusal.Rows error) asked old new = ((j : VerifyData) × AsksToVerify asked j × WasRead (IsRefused j (refusal.Rows error)) old new) ⊎ HasRefineCause (refusal.Rows error) asked old new
 HasCause why asked old new = (j : VerifyData) × AsksToVerify asked j × WasRead (IsRefused j why) old new

@@ -9,7 +9,7 @@ use Rattle.cert_check.specs.Answer.{Answers}
 use Rattle.cert_check.specs.Trust.{IsTrusted}
 use Rattle.cert_check.specs.declared.summary.Summary.{Summary}
 use Rattle.cert_check.specs.Source.{report_limit}
-use Rattle.line_text.specs.Met.{WasMet}
+use Rattle.line_text.specs.Found.{WasFound}
 use Rattle.plift_top.specs.Verify.{WasRead}
 use Rattle.plift_top.specs.declared.refusal.Refusal.{Refusal}
 use Rattle.plift_top.specs.declared.refusal.Refusal.TheVariants as refusal
@@ -39,7 +39,7 @@ abbrev pub StopsCheck : {S : Type 0} → (S → Option (List ℕ)) → (S → �
 StopsCheck left faults source source' refusal.ReadFault = Rose (faults source) (faults source')
 StopsCheck left faults source source' refusal.TooLong = TakenHas (λ bytes. report_limit < length bytes) (left source) (left source')
 StopsCheck left faults source source' refusal.Memory = ⊤
-StopsCheck left faults source source' (refusal.Unsound error) = WasMet report_limit (λ bytes. Answers bytes (Err error)) (left source) (left source')
+StopsCheck left faults source source' (refusal.Unsound error) = WasFound report_limit (λ bytes. Answers bytes (Err error)) (left source) (left source')
 StopsCheck left faults source source' _ = ⊥
 
 -- What a check comes to: the line of a sound file is written, or there is a cause. The sink is as it was but for that line or a front of it.

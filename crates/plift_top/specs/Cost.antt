@@ -17,7 +17,7 @@ use Rattle.lift_cost.specs.Paid.{IsPaidAt}
 use Rattle.lift_cost.specs.Decided.{AskedCost, IsOpenCost, IsRightCost}
 use Rattle.lift_cost.specs.Text.{tree_text, IsTreeText}
 use Rattle.cert_text.specs.Report.{line, number_words}
-use Rattle.plift_words.specs.declared.way.CostLimits.{CostLimits}
+use Rattle.plift_words.specs.declared.query.CostLimits.{CostLimits}
 use Rattle.plift_top.specs.Asked.{AskedModel}
 use Rattle.plift_top.specs.Heads.{head_of}
 use Rattle.plift_top.specs.Parts.{Part, parts}

@@ -97,12 +97,12 @@ abbrev pub TellsRefinedInPart : Option (List ℕ) → Option (List ℕ) → ℕ 
 TellsRefinedInPart old new depth h t = (refined : Tree) → RefinesTree depth h t refined → AppendsFront old new (text_of (deeper_head depth h) refined)
 
 -- The bytes are a sound report that can be gone on from to that depth, and this was told of it.
-pub record GoesOn (Told : HeadData → Tree → Type 0) (depth : ℕ) (bytes : List ℕ) : Type 0 where
+pub record GoesOn (Statement : HeadData → Tree → Type 0) (depth : ℕ) (bytes : List ℕ) : Type 0 where
   pub head : HeadData
   pub tree : Tree
   pub old : IsSoundText bytes head tree
   pub fitting : IsFitting depth head
-  pub told : Told head tree
+  pub reported : Statement head tree
 
 -- the report that goes on from these bytes was appended, whole
 abbrev pub IsRefinedTo : Option (List ℕ) → Option (List ℕ) → ℕ → List ℕ → Type 0
@@ -201,14 +201,14 @@ WritesRefined taken counts k h nodes out out' (Err _) = ⊥
 -- ---- a text as a base
 
 -- the node as a report has it
-abbrev pub told_node : Node → text.Node
-told_node (split-node axis) = text.split axis
-told_node (accept-node u x) = text.accept u x
-told_node (reject-node u r) = text.reject u r
-told_node unknown-node = text.unknown
+abbrev pub reported_node : Node → text.Node
+reported_node (split-node axis) = text.split axis
+reported_node (accept-node u x) = text.accept u x
+reported_node (reject-node u r) = text.reject u r
+reported_node unknown-node = text.unknown
 
 -- the text that is left is that of these nodes of a report
 pub record IsAhead (h : HeadData) (left : List ℕ) (ns : List Node) : Type 0 where
   pub head : IsHead h
-  pub fit : AllByRecursion (λ n. IsNode h (told_node n)) ns
+  pub fit : AllByRecursion (λ n. IsNode h (reported_node n)) ns
   pub text : left ≡ flat_map (node_text h.asked h.from) ns

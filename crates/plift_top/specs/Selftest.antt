@@ -15,7 +15,7 @@ use Rattle.cert_check.specs.Sound.{IsSoundFile, leaf_counts}
 use Rattle.cert_check.specs.declared.summary.Summary.{Summary}
 use Rattle.cert_check.specs.Source.{file_limit}
 use Rattle.plift_words.specs.Job.{VerifyData}
-use Rattle.plift_words.specs.declared.way.Way.TheVariants as way
+use Rattle.plift_words.specs.declared.query.Query.TheVariants as query
 use Rattle.plift_top.specs.declared.refusal.Refusal.{Refusal}
 use Rattle.plift_top.specs.declared.refusal.Refusal.TheVariants as refusal
 
@@ -27,7 +27,7 @@ one_half = record { num = 1; den = 2 }
 
 -- what a ladder is verified for: that it is done with probability at most 1/2, over the ladder's region
 abbrev pub ladder_job : VerifyData
-ladder_job = record { goal = codes "done"; safe = None; reward = None; region = ladder_region_text; depth = ladder_depth; precision = ladder_precision; way = way.Whole one_half None }
+ladder_job = record { goal = codes "done"; safe = None; reward = None; region = ladder_region_text; depth = ladder_depth; precision = ladder_precision; query = query.Whole one_half None }
 
 -- the right tree of the ladder of so many blocks
 abbrev pub IsLadderTree : ℕ → Tree → Type 0

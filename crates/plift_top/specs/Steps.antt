@@ -13,8 +13,8 @@ use Rattle.lift_rows.specs.Admitted.{HasWeightsFromZero, HasSumsOfTotal}
 use Rattle.drn_read.specs.declared.error.DrnError.{DrnError}
 use Rattle.cert_check.specs.Source.{file_limit}
 use Rattle.plift_words.specs.Job.{VerifyData}
-use Rattle.plift_words.specs.Way.{is_cost}
-use Rattle.plift_words.specs.declared.way.Way.{Way}
+use Rattle.plift_words.specs.Query.{is_cost}
+use Rattle.plift_words.specs.declared.query.Query.{Query}
 use Rattle.plift_top.specs.Asked.{AskedModel, cut, asked_model, verified_model}
 use Rattle.plift_top.specs.Verify.{WasRead, IsTooWide, IsRefusedOver, IsAnswered, IsAnsweredInPart}
 use Rattle.plift_top.specs.declared.costed.CostedModel.{CostedModel}
@@ -33,7 +33,7 @@ pub record IsModelOf (job : VerifyData) (m : CostedModel) (text : List ℕ) : Ty
   pub costs : m.costs ≡ asked.costs
 
 -- where it is asked what is paid, each state has a cost
-abbrev pub HasCosts : Way → CostedModel → Type 0
+abbrev pub HasCosts : Query → CostedModel → Type 0
 HasCosts asked m = is_cost asked ≡ true → length m.costs ≡ length m.model.states
 
 -- a text stands for no model, and that is the cause; or memory was wanting
@@ -70,12 +70,12 @@ AdmitsCase job m r (Ok k) = (k ≡ case_of m r job.precision) × IsTestedCase k
 AdmitsCase job m r (Err why) = IsRefusedOver job m (Ok r) why
 
 -- the answer to a case of a model was written, or a fault came and a front of it was
-abbrev pub WritesCase : {K : Type 0} → (K → Option (List ℕ)) → (K → ℕ) → Way → AskedModel → CaseData → K → K → Written → Type 0
+abbrev pub WritesCase : {K : Type 0} → (K → Option (List ℕ)) → (K → ℕ) → Query → AskedModel → CaseData → K → K → Written → Type 0
 WritesCase taken counts asked a k out out' (Ok _) = IsAnswered (taken out) (taken out') asked a k
 WritesCase taken counts asked a k out out' (Err _) = IsAnsweredInPart (taken out) (taken out') asked a k × Rose (counts out) (counts out')
 
 -- the answer to a case of a model was written, or there was no memory to begin, or its quotient is too wide, or a fault came and a front of it was
-abbrev pub AnswersCase : {K T : Type 0} → (K → Option (List ℕ)) → (K → ℕ) → Way → AskedModel → CaseData → K → K → Result T Refusal → Type 0
+abbrev pub AnswersCase : {K T : Type 0} → (K → Option (List ℕ)) → (K → ℕ) → Query → AskedModel → CaseData → K → K → Result T Refusal → Type 0
 AnswersCase taken counts asked a k out out' (Ok _) = IsAnswered (taken out) (taken out') asked a k
 AnswersCase taken counts asked a k out out' (Err refusal.WriteFault) = IsAnsweredInPart (taken out) (taken out') asked a k × Rose (counts out) (counts out')
 AnswersCase taken counts asked a k out out' (Err refusal.Memory) = out' ≡ out
@@ -84,8 +84,8 @@ AnswersCase taken counts asked a k out out' (Err _) = ⊥
 
 -- the rows of a model over a region are tested after the cut, and the answer to that case is written, or there is a cause
 abbrev pub WritesOver : {K T : Type 0} → (K → Option (List ℕ)) → (K → ℕ) → VerifyData → AskedModel → Region → K → K → Result T Refusal → Type 0
-WritesOver taken counts job a r out out' (Ok _) = IsAnswered (taken out) (taken out') job.way a (case_of (cut a) r job.precision)
+WritesOver taken counts job a r out out' (Ok _) = IsAnswered (taken out) (taken out') job.query a (case_of (cut a) r job.precision)
 WritesOver taken counts job a r out out' (Err refusal.WriteFault) =
-    IsAnsweredInPart (taken out) (taken out') job.way a (case_of (cut a) r job.precision) × Rose (counts out) (counts out')
+    IsAnsweredInPart (taken out) (taken out') job.query a (case_of (cut a) r job.precision) × Rose (counts out) (counts out')
 WritesOver taken counts job a r out out' (Err refusal.Memory) = out' ≡ out
 WritesOver taken counts job a r out out' (Err why) = IsRefusedOver job (cut a) (Ok r) why × (out' ≡ out)

@@ -14,8 +14,8 @@ use Rattle.lift_lump.specs.Lumped.{IsWide}
 use Rattle.drn_read.specs.declared.error.DrnError.{DrnError}
 use Rattle.cert_check.specs.Source.{file_limit}
 use Rattle.plift_words.specs.Job.{VerifyData}
-use Rattle.plift_words.specs.declared.way.Way.{Way}
-use Rattle.plift_words.specs.declared.way.Way.TheVariants as way
+use Rattle.plift_words.specs.declared.query.Query.{Query}
+use Rattle.plift_words.specs.declared.query.Query.TheVariants as query
 use Rattle.plift_top.specs.Asked.{AskedModel, cut, asked_model, verified_model}
 use Rattle.plift_top.specs.Reported.{IsReported, IsCutOff}
 use Rattle.plift_top.specs.Bounded.{IsReportedWithin, IsCutOffWithin}
@@ -33,28 +33,28 @@ pub record WasRead (P : List ℕ → Type 0) (old new : Option (List ℕ)) : Typ
   pub has : P text
 
 -- a chain is to be lumped, and the model is a decision process
-abbrev pub lacks_chain : Way → Kind → Bool
-lacks_chain (way.Lumped bound) Mdp = true
+abbrev pub lacks_chain : Query → Kind → Bool
+lacks_chain (query.Lumped bound) Mdp = true
 lacks_chain _ _ = false
 
 -- a chain is to be lumped
-abbrev pub is_lumped : Way → Bool
-is_lumped (way.Lumped bound) = true
+abbrev pub is_lumped : Query → Bool
+is_lumped (query.Lumped bound) = true
 is_lumped _ = false
 
 -- a chain is to be lumped whose rows are admitted, and its quotient has a coefficient that is too large
-abbrev pub IsTooWide : Way → CaseData → Type 0
+abbrev pub IsTooWide : Query → CaseData → Type 0
 IsTooWide asked k = (is_lumped asked ≡ true) × IsAdmitted k × IsWide k.model
 
 -- The model can be answered in this way, if its rows are admitted: where a chain is to be lumped, it is one, and its quotient isn't too wide.
-abbrev pub IsAnswerable : Way → ModelData → Type 0
+abbrev pub IsAnswerable : Query → ModelData → Type 0
 IsAnswerable asked m = (lacks_chain asked m.kind ≡ false) × (is_lumped asked ≡ true → IsWide m → ⊥)
 
 -- Why a job is refused at a model whose region comes to that: the region is at fault, a row isn't admitted, or the quotient is too wide.
 abbrev pub IsRefusedOver : VerifyData → ModelData → Result Region RegionError → Refusal → Type 0
 IsRefusedOver job m (Err error) (refusal.Region f) = f ≡ error
 IsRefusedOver job m (Ok r) (refusal.Rows error) = IsFirstFault (case_of m r job.precision) error
-IsRefusedOver job m (Ok r) refusal.TooWide = IsTooWide job.way (case_of m r job.precision)
+IsRefusedOver job m (Ok r) refusal.TooWide = IsTooWide job.query (case_of m r job.precision)
 IsRefusedOver job m _ _ = ⊥
 
 -- why a job is refused at a model, by whether it lacks a chain
@@ -66,27 +66,27 @@ IsRefusedOf false job m why = IsRefusedOver job m (region m.names job.depth job.
 abbrev pub IsRefusedAt : VerifyData → Result ModelData DrnError → Refusal → Type 0
 IsRefusedAt job (Err error) (refusal.Model f) = f ≡ error
 IsRefusedAt job (Err error) _ = ⊥
-IsRefusedAt job (Ok m) why = IsRefusedOf (lacks_chain job.way m.kind) job m why
+IsRefusedAt job (Ok m) why = IsRefusedOf (lacks_chain job.query m.kind) job m why
 
 -- why a job is refused at a text
 abbrev pub IsRefused : VerifyData → Refusal → List ℕ → Type 0
 IsRefused job why text = IsRefusedAt job (verified_model job text) why
 
 -- The answer to a case of a model was appended, whole: its report for a bound on any number of steps, with a range of precisions where one is told, its text for a bound on as many as are told, the report of its quotient where it is lumped, and its text for a property, or for a budget.
-abbrev pub IsAnswered : Option (List ℕ) → Option (List ℕ) → Way → AskedModel → CaseData → Type 0
-IsAnswered old new (way.Whole bound from) a = IsReported old new from bound
-IsAnswered old new (way.Within bound h) a = IsReportedWithin old new bound h
-IsAnswered old new (way.Lumped bound) a = IsReportedLumped old new bound
-IsAnswered old new (way.Property bound op) a = IsReportedFor old new op bound a
-IsAnswered old new (way.Cost limits) a = IsReportedPaid old new (asked_cost limits a)
+abbrev pub IsAnswered : Option (List ℕ) → Option (List ℕ) → Query → AskedModel → CaseData → Type 0
+IsAnswered old new (query.Whole bound from) a = IsReported old new from bound
+IsAnswered old new (query.Within bound h) a = IsReportedWithin old new bound h
+IsAnswered old new (query.Lumped bound) a = IsReportedLumped old new bound
+IsAnswered old new (query.Property bound op) a = IsReportedFor old new op bound a
+IsAnswered old new (query.Cost limits) a = IsReportedPaid old new (asked_cost limits a)
 
 -- A front of it was appended.
-abbrev pub IsAnsweredInPart : Option (List ℕ) → Option (List ℕ) → Way → AskedModel → CaseData → Type 0
-IsAnsweredInPart old new (way.Whole bound from) a = IsCutOff old new from bound
-IsAnsweredInPart old new (way.Within bound h) a = IsCutOffWithin old new bound h
-IsAnsweredInPart old new (way.Lumped bound) a = IsCutOffLumped old new bound
-IsAnsweredInPart old new (way.Property bound op) a = IsCutOffFor old new op bound
-IsAnsweredInPart old new (way.Cost limits) a = IsCutOffPaid old new (asked_cost limits a)
+abbrev pub IsAnsweredInPart : Option (List ℕ) → Option (List ℕ) → Query → AskedModel → CaseData → Type 0
+IsAnsweredInPart old new (query.Whole bound from) a = IsCutOff old new from bound
+IsAnsweredInPart old new (query.Within bound h) a = IsCutOffWithin old new bound h
+IsAnsweredInPart old new (query.Lumped bound) a = IsCutOffLumped old new bound
+IsAnsweredInPart old new (query.Property bound op) a = IsCutOffFor old new op bound
+IsAnsweredInPart old new (query.Cost limits) a = IsCutOffPaid old new (asked_cost limits a)
 
 -- The text stands for a model, the job's region names a rectangle of its parameters, and P holds of it and of the case that the two make at the job's precision, after the cut.
 pub record Makes (P : AskedModel → CaseData → Type 0) (job : VerifyData) (text : List ℕ) : Type 0 where
@@ -98,11 +98,11 @@ pub record Makes (P : AskedModel → CaseData → Type 0) (job : VerifyData) (te
 
 -- what was appended is the answer to the case that the text and the job make
 abbrev pub Reports : Option (List ℕ) → Option (List ℕ) → VerifyData → List ℕ → Type 0
-Reports old new job text = Makes (IsAnswered old new job.way) job text
+Reports old new job text = Makes (IsAnswered old new job.query) job text
 
 -- what was appended is a front of that answer
 abbrev pub ReportsFront : Option (List ℕ) → Option (List ℕ) → VerifyData → List ℕ → Type 0
-ReportsFront old new job text = Makes (IsAnsweredInPart old new job.way) job text
+ReportsFront old new job text = Makes (IsAnsweredInPart old new job.query) job text
 
 -- why a job stopped before anything was written
 abbrev pub Stops : {S : Type 0} → (S → Option (List ℕ)) → (S → ℕ) → VerifyData → S → S → Refusal → Type 0

@@ -1,7 +1,7 @@
 // Verifies a chain by its quotient.
 ghost use Rattle.std.specs.Prelude.{◌≡◌, None};
 ghost use Rattle.lift_model.specs.declared.kind.Kind.TheVariants.{Dtmc};
-ghost use Rattle.plift_words.specs.declared.way.Way.TheVariants as way;
+ghost use Rattle.plift_words.specs.declared.query.Query.TheVariants as query;
 ghost use Rattle.plift_top.specs.Asked.{uncut};
 ghost use Rattle.plift_top.specs.Steps.{IsTestedCase, AnswersCase};
 ghost use Rattle.plift_top.specs.Lumped.{lumped_case};
@@ -27,7 +27,7 @@ fn write_quotient<K: Sink>(
 ) -> Result<(), Refusal>
     requires { IsTestedCase (lumped_case case.now lumped.now) }
     ensures { let k = lumped_case case.now lumped.now in
-        AnswersCase K.taken K.faults (way.Whole bound None) (uncut k.model) k out.old out.new result }
+        AnswersCase K.taken K.faults (query.Whole bound None) (uncut k.model) k out.old out.new result }
 {
     let quotient = Case::new(lumped.model(), case.root(), case.grid(), case.w());
     let links = Links::build(alloc, lumped.model())?;
@@ -49,7 +49,7 @@ pub(crate) fn write_lumped<K: Sink>(
 ) -> Result<(), Refusal>
     requires case { IsTestedCase case.now }
     requires chain { case.now.model.kind ≡ Dtmc }
-    ensures { AnswersCase K.taken K.faults (way.Lumped bound) (uncut case.now.model) case.now
+    ensures { AnswersCase K.taken K.faults (query.Lumped bound) (uncut case.now.model) case.now
         out.old out.new result }
 {
     quotients_hold();

@@ -10,10 +10,10 @@ ghost use Rattle.corner_lift.specs.Case.{IsCase, IsAdmitted, case_of};
 ghost use Rattle.region_tree.specs.Right.{IsRightTree};
 ghost use Rattle.region_tree.specs.Laws.{RightTreesExist, RightTreesAreOne};
 ghost use Rattle.cert_text.specs.Report.{report_text};
-ghost use Rattle.cert_text.specs.Forms.{IsToldBound};
+ghost use Rattle.cert_text.specs.Forms.{IsReportedBound};
 ghost use Rattle.plift_words.specs.Job.{VerifyData};
 ghost use Rattle.plift_words.specs.declared.job.Field.TheVariants.{Words};
-ghost use Rattle.plift_words.specs.Way.{bound_told, from_told, is_reported};
+ghost use Rattle.plift_words.specs.Query.{query_bound, query_from, is_reported};
 ghost use Rattle.plift_top.specs.Asked.{AskedModel, cut, asked_model};
 ghost use Rattle.plift_top.specs.RightReport.{version_of};
 ghost use Rattle.plift_top.specs.Verify.{WasRead, Reports, ReportsFront, IsAnswerable, lacks_chain};
@@ -25,7 +25,7 @@ ghost use Rattle.plift_top.specs.Selftest.{one_half, tested_line};
 ghost use Rattle.plift_top.specs.Laws.{LaddersHaveTrees};
 ghost use Rattle.cert_check.specs.Sound.{IsSoundFile, leaf_counts};
 ghost use Rattle.cert_check.specs.Source.{NoFault, file_limit, report_limit};
-ghost use Rattle.line_text.specs.Met.{WasMet};
+ghost use Rattle.line_text.specs.Found.{WasFound};
 ghost use Rattle.cert_check.specs.declared.summary.Summary.{Summary};
 ghost use Rattle.plift_top.specs.Check.{IsFoundSound, IsFoundInPart, IsUnsound};
 ghost use Rattle.plift_top.specs.Migrate.{IsMigrated, IsSoundFirst, IsUnsoundFirst};
@@ -73,9 +73,9 @@ fn act<S: Source, K: Sink>(
     ensures limit { ((n : ℕ) → AsksToSelftest (wanted words.now) n → ⊥)
         → KeepsWithin (limit_of (wanted words.now)) result (S.left source.old) (S.left source.new) }
     ensures bound { IsOk result → (j : VerifyData) → AsksToVerify (wanted words.now) j
-        → ForSome (bound_told j.way) IsToldBound }
+        → ForSome (query_bound j.query) IsReportedBound }
     ensures whole { IsOk result → (j : VerifyData) → AsksToVerify (wanted words.now) j
-        → is_reported j.way ≡ true → (j.safe ≡ None) × (j.reward ≡ None) }
+        → is_reported j.query ≡ true → (j.safe ≡ None) × (j.reward ≡ None) }
 {
     match job_of(alloc, words) {
         Ok(Job::Verify(job)) => verify(alloc, &job, source, out),
@@ -110,9 +110,9 @@ pub fn run<S: Source, K: Sink, E: Sink>(
 
     // What out took of `verify` or `lumped` is a sound file: of the second version where a range is told.
     ensures sound { result ≡ Status.Done
-        → (j : VerifyData) → AsksToVerify (wanted words.now.items) j → is_reported j.way ≡ true
+        → (j : VerifyData) → AsksToVerify (wanted words.now.items) j → is_reported j.query ≡ true
         → (report : List ℕ) × (leaves : Summary) × IsSoundFile report leaves
-        × (leaves.version ≡ version_of (from_told j.way)) × Appends (K.taken out.old) (K.taken out.new) report }
+        × (leaves.version ≡ version_of (query_from j.query)) × Appends (K.taken out.old) (K.taken out.new) report }
 
     // Done of `check`: the source gave a sound file, and out took its line. The leaves of its report
     // tile its region, and each holds inside its rectangle, for the model and the bound in the file.
@@ -150,7 +150,7 @@ pub fn run<S: Source, K: Sink, E: Sink>(
         → (tree : Tree) × IsCase (ladder_case n) × IsRightTree (ladder_case n) ladder_precision one_half tree
         × Appends (K.taken out.old) (K.taken out.new) (tested_line n (leaf_counts 1 tree)) }
 
-    // Each refusal has its cause. What `told` says of its note has the causes of the others.
+    // Each refusal has its cause. What `reported` says of its note has the causes of the others.
     ensures at_fault { IsErr (wanted words.now.items)
         → (result ≡ Status.Usage) ⊎ (result ≡ Status.Memory) }
     ensures not_plain { wanted words.now.items ≡ Err Words → result ≡ Status.Usage }
@@ -169,7 +169,7 @@ pub fn run<S: Source, K: Sink, E: Sink>(
     // No other command does.
     ensures not_sound { result ≡ Status.NotSound
         → (AsksToCheck (wanted words.now.items)
-        × WasMet report_limit IsUnsound (S.left source.old) (S.left source.new))
+        × WasFound report_limit IsUnsound (S.left source.old) (S.left source.new))
         ⊎ ((AsksToMigrate (wanted words.now.items)
         × WasRead IsUnsoundFirst (S.left source.old) (S.left source.new))
         ⊎ ((depth : ℕ) × AsksToRefine (wanted words.now.items) depth
@@ -239,7 +239,7 @@ pub fn run<S: Source, K: Sink, E: Sink>(
     ensures complete { (j : VerifyData) (text : List ℕ) (a : AskedModel) (root : Region)
         → AsksToVerify (wanted words.now.items) j → S.left source.old ≡ Some text
         → asked_model j text ≡ Ok a → region (cut a).names j.depth j.region ≡ Ok root
-        → IsAdmitted (case_of (cut a) root j.precision) → IsAnswerable j.way (cut a) → length text ≤ file_limit
+        → IsAdmitted (case_of (cut a) root j.precision) → IsAnswerable j.query (cut a) → length text ≤ file_limit
         → NoFault (S.faults source.old) (S.faults source.new)
         → NoFault (K.faults out.old) (K.faults out.new)
         → (result ≡ Status.Done) ⊎ (result ≡ Status.Memory) }
@@ -258,7 +258,7 @@ pub fn run<S: Source, K: Sink, E: Sink>(
     ensures unadmitted { (j : VerifyData) (text : List ℕ) (a : AskedModel) (root : Region)
         → AsksToVerify (wanted words.now.items) j → S.left source.old ≡ Some text
         → asked_model j text ≡ Ok a → region (cut a).names j.depth j.region ≡ Ok root
-        → (IsAdmitted (case_of (cut a) root j.precision) → ⊥) → lacks_chain j.way (cut a).kind ≡ false
+        → (IsAdmitted (case_of (cut a) root j.precision) → ⊥) → lacks_chain j.query (cut a).kind ≡ false
         → length text ≤ file_limit
         → NoFault (S.faults source.old) (S.faults source.new)
         → NoFault (K.faults out.old) (K.faults out.new)
@@ -320,7 +320,7 @@ pub fn run<S: Source, K: Sink, E: Sink>(
 
     // A refusal is told by its note, and nothing else is.
     ensures silent { result ≡ Status.Done → notes.new ≡ notes.old }
-    ensures told { result ≢ Status.Done → (note : List ℕ)
+    ensures reported { result ≢ Status.Done → (note : List ℕ)
         × HasNote result (wanted words.now.items) (S.left source.old) (S.left source.new) note
         × WroteNote E.taken E.faults notes.old notes.new note }
 {

@@ -106,7 +106,7 @@ fn write_tree<K: Sink>(question: &Question, old: &Old, room: &mut Room, out: &mu
     let mut reporter = Reporter {
         out,
         case,
-        from: head.told_from(),
+        from: head.reported_from(),
     };
     region_tree::refine(
         case,

@@ -19,7 +19,7 @@ use lift_base::{Sink, SureSource, Text, Word, WriteFault, write_words};
 use lift_cert::Bound;
 use lift_rows::first_fault_is_one;
 use model_gen::{Ladder, ladders_are_cases};
-use plift_words::{VerifyJob, Way};
+use plift_words::{Query, VerifyJob};
 use region_tree::right_trees_are_one;
 use std::alloc::{AllocError, Global};
 
@@ -67,7 +67,7 @@ fn verify_ladder(
         region: b"1/2<=p<=3/5,1/2<=q<=3/5",
         depth: 2,
         precision: 24,
-        way: Way::Whole(Bound { num: 1, den: 2 }, None),
+        query: Query::Whole(Bound { num: 1, den: 2 }, None),
     };
     verify(alloc, &job, source, report)
 }

@@ -11,9 +11,9 @@ ghost use Rattle.property_tree.specs.Rooms as property;
 ghost use Rattle.lift_cost.specs.Rooms as cost;
 ghost use Rattle.lift_cost.specs.Decided.{CanAskCost};
 ghost use Rattle.plift_words.specs.Given.{verify_data};
-ghost use Rattle.plift_words.specs.declared.way.Way.TheVariants.{Whole, Within, Property, Cost};
+ghost use Rattle.plift_words.specs.declared.query.Query.TheVariants.{Whole, Within, Property, Cost};
 ghost use Rattle.plift_words.specs.Values.{most_steps};
-ghost use Rattle.plift_words.specs.Way.{is_cost};
+ghost use Rattle.plift_words.specs.Query.{is_cost};
 ghost use Rattle.plift_top.specs.RightReport.{IsRange};
 ghost use Rattle.cert_check.specs.Source.{file_limit};
 ghost use Rattle.plift_top.specs.Asked.{AskedModel, uncut, cut, safe_in, verified_model};
@@ -40,7 +40,7 @@ use lift_grid::{Grid, Rect, read_region, trees_tile};
 use lift_model::{Kind, Links, Model};
 use lift_names::Names;
 use lift_rows::{admit, admit_linked};
-use plift_words::{CostLimits, VerifyJob, Way};
+use plift_words::{CostLimits, Query, VerifyJob};
 use property_text::{Op, goals_of, restrict, until_is_reach};
 use property_tree::PropertyRoom;
 use region_tree::{Room, rectangles_at_depths, right_trees_tile};
@@ -104,7 +104,7 @@ fn model_in(alloc: Global, job: &VerifyJob, text: &[u8]) -> Result<Model, Refusa
 fn asked_in(alloc: Global, job: &VerifyJob, text: &[u8]) -> Result<CostedModel, Refusal>
     requires { length text.now ≤ file_limit }
     ensures model { IfOk result (λ m. IsModelOf (verify_data job.now) m text.now) }
-    ensures costs { IfOk result (HasCosts job.now.way) }
+    ensures costs { IfOk result (HasCosts job.now.query) }
     ensures cause { IfErr result (IsTextFault (verified_model (verify_data job.now) text.now)) }
 {
     if let Some(reward) = job.reward {
@@ -124,7 +124,7 @@ fn model_of<S: Source>(
     source: &mut S,
 ) -> Result<CostedModel, Refusal>
     ensures answer { ReadsModel S.left S.faults (verify_data job.now) source.old source.new result }
-    ensures costs { IfOk result (HasCosts job.now.way) }
+    ensures costs { IfOk result (HasCosts job.now.query) }
     ensures limit { KeepsLimit result (S.left source.old) (S.left source.new) }
 {
     let text = read_all(alloc, source, TEXT_LIMIT)?;
@@ -354,19 +354,19 @@ fn write_answer<K: Sink>(
 ) -> Result<(), Refusal>
     requires case { IsTestedCase tested.now.case.now }
     requires links { AreLinks tested.now.case.now.model tested.now.links.now }
-    requires costs { is_cost job.now.way ≡ true
+    requires costs { is_cost job.now.query ≡ true
         → length tested.now.costs.now ≡ length tested.now.case.now.model.states }
     requires precision { tested.now.case.now.w ≡ job.now.precision }
-    requires chain { lacks_chain job.now.way tested.now.case.now.model.kind ≡ false }
+    requires chain { lacks_chain job.now.query tested.now.case.now.model.kind ≡ false }
     ensures { (a : AskedModel) → tested.now.case.now.model ≡ cut a → tested.now.costs.now ≡ a.costs
-        → AnswersCase K.taken K.faults job.now.way a tested.now.case.now out.old out.new result }
+        → AnswersCase K.taken K.faults job.now.query a tested.now.case.now out.old out.new result }
 {
-    match job.way {
-        Way::Whole(bound, from) => write_whole(alloc, &tested.within(bound), from, out),
-        Way::Within(bound, steps) => write_within(alloc, &tested.within(bound), steps, out),
-        Way::Lumped(bound) => write_lumped(alloc, tested.case, bound, out),
-        Way::Property(bound, op) => write_for(alloc, &tested.within(bound), op, out),
-        Way::Cost(limits) => write_paid(alloc, tested, limits, out),
+    match job.query {
+        Query::Whole(bound, from) => write_whole(alloc, &tested.within(bound), from, out),
+        Query::Within(bound, steps) => write_within(alloc, &tested.within(bound), steps, out),
+        Query::Lumped(bound) => write_lumped(alloc, tested.case, bound, out),
+        Query::Property(bound, op) => write_for(alloc, &tested.within(bound), op, out),
+        Query::Cost(limits) => write_paid(alloc, tested, limits, out),
     }
 }
 
@@ -380,8 +380,8 @@ fn write_over<K: Sink>(
 ) -> Result<(), Refusal>
     requires grid { IsOnGrid region.now.0.d region.now.0.depth (length costed.now.model.names) region.now.1 }
     requires depth { region.now.0.depth ≡ job.now.depth }
-    requires chain { lacks_chain job.now.way costed.now.model.kind ≡ false }
-    requires costs { HasCosts job.now.way costed.now }
+    requires chain { lacks_chain job.now.query costed.now.model.kind ≡ false }
+    requires costs { HasCosts job.now.query costed.now }
     ensures { (a : AskedModel) → costed.now.model ≡ cut a → costed.now.costs ≡ a.costs
         → WritesOver K.taken K.faults (verify_data job.now) a (region_of region.now) out.old out.new result }
 {
@@ -404,15 +404,15 @@ fn write_over<K: Sink>(
 }
 
 // Whether a chain is to be lumped, and the model is a decision process.
-fn lacks_chain(way: Way, kind: Kind) -> bool
-    ensures { result ≡ lacks_chain way kind }
+fn lacks_chain(query: Query, kind: Kind) -> bool
+    ensures { result ≡ lacks_chain query kind }
 {
-    match way {
-        Way::Lumped(_) => match kind {
+    match query {
+        Query::Lumped(_) => match kind {
             Kind::Mdp => true,
             Kind::Dtmc => false,
         },
-        Way::Whole(..) | Way::Within(..) | Way::Property(..) | Way::Cost(_) => false,
+        Query::Whole(..) | Query::Within(..) | Query::Property(..) | Query::Cost(_) => false,
     }
 }
 
@@ -430,7 +430,7 @@ pub fn verify<S: Source, K: Sink>(
     ensures limit { KeepsLimit result (S.left source.old) (S.left source.new) }
 {
     let costed = model_of(alloc, job, source)?;
-    if lacks_chain(job.way, costed.model.kind()) {
+    if lacks_chain(job.query, costed.model.kind()) {
         return Err(Refusal::NotChain);
     }
     let region = root_of(alloc, job, costed.model.names())?;

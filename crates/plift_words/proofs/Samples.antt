@@ -6,14 +6,14 @@ use Rattle.plift_words.specs.Line.{options}
 use Rattle.plift_words.specs.Job.{VerifyData, job}
 use Rattle.plift_words.specs.Job.JobData.{verify, check, migrate, refine, generate, selftest}
 use Rattle.plift_words.specs.declared.job.Field.TheVariants as field
-use Rattle.plift_words.specs.declared.way.Way.TheVariants as way
+use Rattle.plift_words.specs.declared.query.Query.TheVariants as query
 use Rattle.property_text.specs.declared.op.Op.TheVariants.{AtLeast, Below}
 
 half : Bound
 half = record { num = 1; den = 2 }
 
 at_most_half : VerifyData
-at_most_half = record { goal = codes "heads"; safe = None; reward = None; region = []; depth = 5; precision = 4; way = way.Whole half None }
+at_most_half = record { goal = codes "heads"; safe = None; reward = None; region = []; depth = 5; precision = 4; query = query.Whole half None }
 
 -- the words in another order and in both spellings, with a bound that isn't in lowest terms
 asks : job (codes "verify" ∷ codes "--depth=5" ∷ codes "--bound" ∷ codes "2/4" ∷ codes "--goal=heads" ∷ codes "--precision" ∷ codes "04" ∷ []) ≡ Ok (verify at_most_half)
@@ -37,12 +37,12 @@ unfolding at_most_half half gcd
 asks_least = refl
 
 -- within a number of steps
-asks_within : job (codes "bounded" ∷ codes "--goal=heads" ∷ codes "--steps" ∷ codes "64" ∷ codes "--bound=1/2" ∷ codes "--depth=5" ∷ codes "--precision=4" ∷ []) ≡ Ok (verify (record at_most_half { way = way.Within half 64 }))
+asks_within : job (codes "bounded" ∷ codes "--goal=heads" ∷ codes "--steps" ∷ codes "64" ∷ codes "--bound=1/2" ∷ codes "--depth=5" ∷ codes "--precision=4" ∷ []) ≡ Ok (verify (record at_most_half { query = query.Within half 64 }))
 unfolding at_most_half half gcd
 asks_within = refl
 
 -- by the quotient of a chain
-asks_lumped : job (codes "lumped" ∷ codes "--goal=heads" ∷ codes "--bound=1/2" ∷ codes "--depth=5" ∷ codes "--precision=4" ∷ []) ≡ Ok (verify (record at_most_half { way = way.Lumped half }))
+asks_lumped : job (codes "lumped" ∷ codes "--goal=heads" ∷ codes "--bound=1/2" ∷ codes "--depth=5" ∷ codes "--precision=4" ∷ []) ≡ Ok (verify (record at_most_half { query = query.Lumped half }))
 unfolding at_most_half half gcd
 asks_lumped = refl
 
@@ -50,12 +50,12 @@ lumped_within : job (codes "lumped" ∷ codes "--goal=heads" ∷ codes "--bound=
 lumped_within = refl
 
 -- by a formula, with a label of safe states and without one
-asks_until : job (codes "property" ∷ codes "--depth=5" ∷ codes "--formula" ∷ codes "P>=2/4 [ \"up\" U \"heads\" ]" ∷ codes "--precision=4" ∷ []) ≡ Ok (verify (record at_most_half { safe = Some (codes "up"); way = way.Property half AtLeast }))
+asks_until : job (codes "property" ∷ codes "--depth=5" ∷ codes "--formula" ∷ codes "P>=2/4 [ \"up\" U \"heads\" ]" ∷ codes "--precision=4" ∷ []) ≡ Ok (verify (record at_most_half { safe = Some (codes "up"); query = query.Property half AtLeast }))
 unfolding at_most_half half gcd
 asks_until = refl
 
 asks_eventually : job (codes "property" ∷ codes "--formula=P<0.5[F\"heads\"]" ∷ codes "--region" ∷ codes "p<=2/5" ∷ codes "--depth=5" ∷ codes "--precision=4" ∷ [])
-    ≡ Ok (verify (record at_most_half { region = codes "p<=2/5"; way = way.Property half Below }))
+    ≡ Ok (verify (record at_most_half { region = codes "p<=2/5"; query = query.Property half Below }))
 unfolding at_most_half half gcd
 asks_eventually = refl
 
@@ -73,25 +73,25 @@ formula_first = refl
 
 -- what is paid, by a name, a cap and a budget that isn't in lowest terms
 two_of_four : VerifyData
-two_of_four = record { goal = codes "heads"; safe = None; reward = Some (codes "steps"); region = []; depth = 5; precision = 4; way = way.Cost (record { cap = 4; budget = record { num = 2; den = 1 } }) }
+two_of_four = record { goal = codes "heads"; safe = None; reward = Some (codes "steps"); region = []; depth = 5; precision = 4; query = query.Cost (record { cap = 4; budget = record { num = 2; den = 1 } }) }
 
 asks_cost : job (codes "cost" ∷ codes "--budget" ∷ codes "4/2" ∷ codes "--goal=heads" ∷ codes "--reward=steps" ∷ codes "--cap" ∷ codes "04" ∷ codes "--depth=5" ∷ codes "--precision=4" ∷ []) ≡ Ok (verify two_of_four)
 unfolding two_of_four gcd
 asks_cost = refl
 
 whole_cap : job (codes "cost" ∷ codes "--budget=4" ∷ codes "--goal=heads" ∷ codes "--reward=steps" ∷ codes "--cap=4" ∷ codes "--depth=5" ∷ codes "--precision=4" ∷ [])
-    ≡ Ok (verify (record two_of_four { way = way.Cost (record { cap = 4; budget = record { num = 4; den = 1 } }) }))
+    ≡ Ok (verify (record two_of_four { query = query.Cost (record { cap = 4; budget = record { num = 4; den = 1 } }) }))
 unfolding two_of_four gcd
 whole_cap = refl
 
 -- the least and the greatest cap, one more, too many digits, and a budget above the cap
 no_budget : job (codes "cost" ∷ codes "--budget=0" ∷ codes "--goal=heads" ∷ codes "--reward=steps" ∷ codes "--cap=0000000001" ∷ codes "--depth=5" ∷ codes "--precision=4" ∷ [])
-    ≡ Ok (verify (record two_of_four { way = way.Cost (record { cap = 1; budget = record { num = 0; den = 1 } }) }))
+    ≡ Ok (verify (record two_of_four { query = query.Cost (record { cap = 1; budget = record { num = 0; den = 1 } }) }))
 unfolding two_of_four gcd
 no_budget = refl
 
 great_cap : job (codes "cost" ∷ codes "--budget=1/2" ∷ codes "--goal=heads" ∷ codes "--reward=steps" ∷ codes "--cap=4294967295" ∷ codes "--depth=5" ∷ codes "--precision=4" ∷ [])
-    ≡ Ok (verify (record two_of_four { way = way.Cost (record { cap = 4294967295; budget = record { num = 1; den = 2 } }) }))
+    ≡ Ok (verify (record two_of_four { query = query.Cost (record { cap = 4294967295; budget = record { num = 1; den = 2 } }) }))
 unfolding two_of_four gcd
 great_cap = refl
 
@@ -139,11 +139,11 @@ property_from : job (codes "property" ∷ codes "--from=1" ∷ codes "--formula"
 property_from = refl
 
 -- with the least precision of a range, from 1 to the precision
-asks_from : job (codes "verify" ∷ codes "--from" ∷ codes "001" ∷ codes "--goal=heads" ∷ codes "--bound=1/2" ∷ codes "--depth=5" ∷ codes "--precision=4" ∷ []) ≡ Ok (verify (record at_most_half { way = way.Whole half (Some 1) }))
+asks_from : job (codes "verify" ∷ codes "--from" ∷ codes "001" ∷ codes "--goal=heads" ∷ codes "--bound=1/2" ∷ codes "--depth=5" ∷ codes "--precision=4" ∷ []) ≡ Ok (verify (record at_most_half { query = query.Whole half (Some 1) }))
 unfolding at_most_half half gcd
 asks_from = refl
 
-from_the_precision : job (codes "verify" ∷ codes "--from=4" ∷ codes "--goal=heads" ∷ codes "--bound=1/2" ∷ codes "--depth=5" ∷ codes "--precision=4" ∷ []) ≡ Ok (verify (record at_most_half { way = way.Whole half (Some 4) }))
+from_the_precision : job (codes "verify" ∷ codes "--from=4" ∷ codes "--goal=heads" ∷ codes "--bound=1/2" ∷ codes "--depth=5" ∷ codes "--precision=4" ∷ []) ≡ Ok (verify (record at_most_half { query = query.Whole half (Some 4) }))
 unfolding at_most_half half gcd
 from_the_precision = refl
 

@@ -11,11 +11,11 @@ use Rattle.corner_lift.specs.Case.{most_precision}
 use Rattle.lift_cert.specs.declared.bound.Bound.{Bound}
 use Rattle.plift_words.specs.Line.{is_lumped, is_property, is_cost, is_asking, is_check, is_migrate, depth_behind, word_behind, is_plain, options, value_of}
 use Rattle.plift_words.specs.Values.{goal_of, reward_of, bound_of, cap_of, budget_of, option_number, steps_of, blocks_of}
-use Rattle.plift_words.specs.Job.{JobData, way_in, limits_in, verify_job, formula_field, formula_in, property_job, cost_job, asking_job, blocks_job, refine_job, other_job, job}
+use Rattle.plift_words.specs.Job.{JobData, query_in, limits_in, verify_job, formula_field, formula_in, property_job, cost_job, asking_job, blocks_job, refine_job, other_job, job}
 use Rattle.plift_words.specs.Given.{IsOfVerify}
 use Rattle.lift_cost.specs.declared.question.Budget.{Budget}
-use Rattle.plift_words.specs.declared.way.CostLimits.{CostLimits}
-use Rattle.plift_words.specs.declared.way.Way.TheVariants as way
+use Rattle.plift_words.specs.declared.query.CostLimits.{CostLimits}
+use Rattle.plift_words.specs.declared.query.Query.TheVariants as query
 use Rattle.property_text.specs.Formula.{FormulaData, formula_of}
 use Rattle.property_text.specs.declared.error.FormulaError.{FormulaError}
 use Rattle.property_text.specs.declared.error.FormulaError.TheVariants as error
@@ -30,8 +30,8 @@ job_by lumps goal bound region depth precision steps from = do
   bound ← ok_or bound field.Bound
   depth ← ok_or depth field.Depth
   precision ← ok_or precision field.Precision
-  asked ← way_in bound lumps precision steps from
-  Ok (JobData.verify (record { goal = goal; safe = None; reward = None; region = region; depth = depth; precision = precision; way = asked }))
+  asked ← query_in bound lumps precision steps from
+  Ok (JobData.verify (record { goal = goal; safe = None; reward = None; region = region; depth = depth; precision = precision; query = asked }))
 
 of_steps : (lumps : Bool) (goal : List ℕ) (bound : Bound) (region : List ℕ) (depth precision : ℕ) (word : List ℕ) (from : Option (List ℕ)) (steps : Option ℕ) → steps_of word ≡ steps
     → IsOfVerify (job_by lumps (Some goal) (Some bound) region (Some depth) (Some precision) (Some word) from)
@@ -61,7 +61,7 @@ property_by formula region depth precision = do
   formula ← formula
   depth ← ok_or depth field.Depth
   precision ← ok_or precision field.Precision
-  Ok (JobData.verify (record { goal = formula.goal; safe = formula.safe; reward = None; region = region; depth = depth; precision = precision; way = way.Property formula.bound formula.op }))
+  Ok (JobData.verify (record { goal = formula.goal; safe = formula.safe; reward = None; region = region; depth = depth; precision = precision; query = query.Property formula.bound formula.op }))
 
 of_formula : (f : Result FormulaData FormulaError) (region : List ℕ) (depth precision : Option ℕ) → IsOfVerify (property_by (formula_field f) region depth precision)
 of_formula (Ok f) r (Some d) (Some p) = tt
@@ -83,7 +83,7 @@ cost_by goal region depth precision reward cap budget = do
   precision ← ok_or precision field.Precision
   reward ← ok_or reward field.Reward
   limits ← limits_in cap budget
-  Ok (JobData.verify (record { goal = goal; safe = None; reward = Some reward; region = region; depth = depth; precision = precision; way = way.Cost limits }))
+  Ok (JobData.verify (record { goal = goal; safe = None; reward = Some reward; region = region; depth = depth; precision = precision; query = query.Cost limits }))
 
 -- the limits are some, or the cap or the budget is at fault
 abbrev IsOfLimits : Result CostLimits Field → Type 0
@@ -101,7 +101,7 @@ limits_of (Some most) budget = by (budget most)
     by (Some paid) = tt
 
 with_limits : (goal : List ℕ) (region : List ℕ) (depth precision : ℕ) (reward : List ℕ) (limits : Result CostLimits Field) → IsOfLimits limits
-    → IsOfVerify (limits >>= λ l. Ok (JobData.verify (record { goal = goal; safe = None; reward = Some reward; region = region; depth = depth; precision = precision; way = way.Cost l })))
+    → IsOfVerify (limits >>= λ l. Ok (JobData.verify (record { goal = goal; safe = None; reward = Some reward; region = region; depth = depth; precision = precision; query = query.Cost l })))
 with_limits g r d p n (Ok limits) h = tt
 with_limits g r d p n (Err field.Cap) h = tt
 with_limits g r d p n (Err field.Budget) h = tt

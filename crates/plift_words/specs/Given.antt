@@ -23,7 +23,7 @@ asked words = job (map string_bytes words)
 
 -- what is to be verified
 abbrev pub verify_data : VerifyJob → VerifyData
-verify_data j = record { goal = j.goal.now; safe = option_copied j.safe; reward = option_copied j.reward; region = j.region.now; depth = j.depth; precision = j.precision; way = j.way }
+verify_data j = record { goal = j.goal.now; safe = option_copied j.safe; reward = option_copied j.reward; region = j.region.now; depth = j.depth; precision = j.precision; query = j.query }
 
 -- a job
 abbrev pub job_data : Job → JobData

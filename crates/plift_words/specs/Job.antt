@@ -9,9 +9,9 @@ use Rattle.plift_words.specs.Line.{is_lumped, is_property, is_cost, is_asking, i
 use Rattle.plift_words.specs.Values.{goal_of, reward_of, bound_of, cap_of, budget_of, option_number, steps_of, blocks_of}
 use Rattle.plift_words.specs.declared.job.Field.{Field}
 use Rattle.plift_words.specs.declared.job.Field.TheVariants as field
-use Rattle.plift_words.specs.declared.way.CostLimits.{CostLimits}
-use Rattle.plift_words.specs.declared.way.Way.{Way}
-use Rattle.plift_words.specs.declared.way.Way.TheVariants as way
+use Rattle.plift_words.specs.declared.query.CostLimits.{CostLimits}
+use Rattle.plift_words.specs.declared.query.Query.{Query}
+use Rattle.plift_words.specs.declared.query.Query.TheVariants as query
 use Rattle.property_text.specs.Formula.{FormulaData, formula_of}
 use Rattle.property_text.specs.declared.error.FormulaError.{FormulaError}
 use Rattle.property_text.specs.declared.error.FormulaError.TheVariants as error
@@ -27,7 +27,7 @@ pub record VerifyData : Type 0 where
   pub region : List ℕ
   pub depth : ℕ
   pub precision : ℕ
-  pub way : Way
+  pub query : Query
 
 -- what a line asks for: a command, with what it is asked
 pub data JobData : Type 0 where
@@ -49,9 +49,9 @@ from_in precision None = Ok None
 from_in precision (Some word) = ok_or (option_number 1 precision word) field.From >>= λ from. Ok (Some from)
 
 -- What is asked with a bound, by whether it asks to lump, the precision, and the words of the options for steps and for a range: within a number of steps where their option stands there, by the quotient where it asks to lump, and else with a range where one is told.
-abbrev pub way_in : Bound → Bool → ℕ → Option (List ℕ) → Option (List ℕ) → Result Way Field
-way_in bound lumps precision (Some word) from = ok_or (steps_of word) field.Steps >>= λ steps. Ok (way.Within bound steps)
-way_in bound lumps precision None from = if lumps then Ok (way.Lumped bound) else (from_in precision from >>= λ least. Ok (way.Whole bound least))
+abbrev pub query_in : Bound → Bool → ℕ → Option (List ℕ) → Option (List ℕ) → Result Query Field
+query_in bound lumps precision (Some word) from = ok_or (steps_of word) field.Steps >>= λ steps. Ok (query.Within bound steps)
+query_in bound lumps precision None from = if lumps then Ok (query.Lumped bound) else (from_in precision from >>= λ least. Ok (query.Whole bound least))
 
 -- the depth, where its word is a number in its range; 0 where there is none
 abbrev pub depth_of : Option (List ℕ) → Result ℕ Field
@@ -68,8 +68,8 @@ verify_job lumps given = do
   bound ← ok_or (option_and_then bound_of (given (codes "--bound"))) field.Bound
   depth ← depth_of (given (codes "--depth"))
   precision ← precision_of (given (codes "--precision"))
-  asked ← way_in bound lumps precision (given (codes "--steps")) (given (codes "--from"))
-  Ok (JobData.verify (record { goal = goal; safe = None; reward = None; region = unwrap_or (given (codes "--region")) []; depth = depth; precision = precision; way = asked }))
+  asked ← query_in bound lumps precision (given (codes "--steps")) (given (codes "--from"))
+  Ok (JobData.verify (record { goal = goal; safe = None; reward = None; region = unwrap_or (given (codes "--region")) []; depth = depth; precision = precision; query = asked }))
 
 -- the formula that is told, or that it is none, or has no bound
 abbrev pub formula_field : Result FormulaData FormulaError → Result FormulaData Field
@@ -88,7 +88,7 @@ property_job given = do
   formula ← formula_in (given (codes "--formula"))
   depth ← depth_of (given (codes "--depth"))
   precision ← precision_of (given (codes "--precision"))
-  Ok (JobData.verify (record { goal = formula.goal; safe = formula.safe; reward = None; region = unwrap_or (given (codes "--region")) []; depth = depth; precision = precision; way = way.Property formula.bound formula.op }))
+  Ok (JobData.verify (record { goal = formula.goal; safe = formula.safe; reward = None; region = unwrap_or (given (codes "--region")) []; depth = depth; precision = precision; query = query.Property formula.bound formula.op }))
 
 -- the cap and the budget, or the first of them that is out of its grammar or range
 abbrev pub limits_in : Option (List ℕ) → Option (List ℕ) → Result CostLimits Field
@@ -105,7 +105,7 @@ cost_job given = do
   precision ← precision_of (given (codes "--precision"))
   reward ← ok_or (option_and_then reward_of (given (codes "--reward"))) field.Reward
   limits ← limits_in (given (codes "--cap")) (given (codes "--budget"))
-  Ok (JobData.verify (record { goal = goal; safe = None; reward = Some reward; region = unwrap_or (given (codes "--region")) []; depth = depth; precision = precision; way = way.Cost limits }))
+  Ok (JobData.verify (record { goal = goal; safe = None; reward = Some reward; region = unwrap_or (given (codes "--region")) []; depth = depth; precision = precision; query = query.Cost limits }))
 
 -- the job of a line of one of these five commands
 abbrev pub asking_job : List (List ℕ) → (List ℕ → Option (List ℕ)) → Result JobData Field

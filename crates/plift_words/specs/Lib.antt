@@ -1,6 +1,6 @@
 pub mod Line
 pub mod Values
-pub mod Way
+pub mod Query
 pub mod Job
 pub mod Laws
 pub mod Parser

@@ -7,9 +7,9 @@ ghost use Rattle.plift_words.specs.Line.{is_lumped, is_asking};
 ghost use Rattle.lift_grid.specs.Rectangle.{most_halvings};
 ghost use Rattle.corner_lift.specs.Case.{most_precision};
 ghost use Rattle.plift_words.specs.Values.{goal_of, reward_of, bound_of, option_number, most_steps, blocks_of};
-ghost use Rattle.plift_words.specs.Job.{from_in, way_in, depth_of, precision_of, formula_in, limits_in};
+ghost use Rattle.plift_words.specs.Job.{from_in, query_in, depth_of, precision_of, formula_in, limits_in};
 ghost use Rattle.plift_words.specs.Job.{verify_job, property_job, cost_job, asking_job, refine_job, other_job};
-ghost use Rattle.plift_words.specs.Way.{steps_told, from_told};
+ghost use Rattle.plift_words.specs.Query.{query_steps, query_from};
 ghost use Rattle.plift_words.specs.Given.{answer_data, asked, Asks};
 
 use crate::error::WordsError;
@@ -18,10 +18,10 @@ use crate::line::{
     depth_behind, is_asking, is_check, is_cost, is_lumped, is_migrate, is_property, word_behind,
 };
 use crate::parser::parse;
+use crate::query::{CostLimits, Query};
 use crate::values::{
     bound_of, budget_of, cap_of, goal_of, ladder_of, option_number, reward_of, steps_of,
 };
-use crate::way::{CostLimits, Way};
 use clap::ArgMatches;
 use lift_cert::Bound;
 use property_text::{FormulaError, FormulaIn, formula_in};
@@ -88,7 +88,7 @@ fn precision_in(matches: &ArgMatches<'_>) -> Result<u32, Field>
 // The least precision of a range up to this one, where one is told.
 fn from_in(matches: &ArgMatches<'_>, precision: u32) -> Result<Option<u32>, Field>
     ensures value { result ≡ from_in precision (first_value (found_of matches.now) (codes "from")) }
-    ensures range { IfOk result (λ told. IfSome told (λ from. (1 ≤ from) × (from ≤ precision))) }
+    ensures range { IfOk result (λ reported. IfSome reported (λ from. (1 ≤ from) × (from ≤ precision))) }
 {
     match matches.get_str("from") {
         Some(word) => Ok(Some(option_number(word, 1, precision).ok_or(Field::From)?)),
@@ -97,16 +97,21 @@ fn from_in(matches: &ArgMatches<'_>, precision: u32) -> Result<Option<u32>, Fiel
 }
 
 // What is asked with a bound: within how many steps, where their option stands there.
-fn way_in(matches: &ArgMatches<'_>, bound: Bound, lumps: bool, precision: u32) -> Result<Way, Field>
+fn query_in(
+    matches: &ArgMatches<'_>,
+    bound: Bound,
+    lumps: bool,
+    precision: u32,
+) -> Result<Query, Field>
     ensures value { let given = first_value (found_of matches.now) in
-        result ≡ way_in bound lumps precision (given (codes "steps")) (given (codes "from")) }
-    ensures steps { IfOk result (λ way. IfSome (steps_told way) (λ h. (1 ≤ h) × (h ≤ most_steps))) }
-    ensures from { IfOk result (λ way. IfSome (from_told way) (λ v. (1 ≤ v) × (v ≤ precision))) }
+        result ≡ query_in bound lumps precision (given (codes "steps")) (given (codes "from")) }
+    ensures steps { IfOk result (λ query. IfSome (query_steps query) (λ h. (1 ≤ h) × (h ≤ most_steps))) }
+    ensures from { IfOk result (λ query. IfSome (query_from query) (λ v. (1 ≤ v) × (v ≤ precision))) }
 {
     match matches.get_str("steps") {
-        Some(word) => Ok(Way::Within(bound, steps_of(word).ok_or(Field::Steps)?)),
-        None if lumps => Ok(Way::Lumped(bound)),
-        None => Ok(Way::Whole(bound, from_in(matches, precision)?)),
+        Some(word) => Ok(Query::Within(bound, steps_of(word).ok_or(Field::Steps)?)),
+        None if lumps => Ok(Query::Lumped(bound)),
+        None => Ok(Query::Whole(bound, from_in(matches, precision)?)),
     }
 }
 
@@ -119,7 +124,7 @@ fn job_in<'a>(matches: &ArgMatches<'a>, lumps: bool) -> Result<Job<'a>, Field>
     let region = region_in(matches);
     let depth = depth_in(matches)?;
     let precision = precision_in(matches)?;
-    let way = way_in(matches, bound, lumps, precision)?;
+    let query = query_in(matches, bound, lumps, precision)?;
     Ok(Job::Verify(VerifyJob {
         goal,
         safe: None,
@@ -127,7 +132,7 @@ fn job_in<'a>(matches: &ArgMatches<'a>, lumps: bool) -> Result<Job<'a>, Field>
         region,
         depth,
         precision,
-        way,
+        query,
     }))
 }
 
@@ -155,7 +160,7 @@ fn property_in<'a>(matches: &ArgMatches<'a>) -> Result<Job<'a>, Field>
         region: region_in(matches),
         depth,
         precision,
-        way: Way::Property(formula.bound, formula.op),
+        query: Query::Property(formula.bound, formula.op),
     }))
 }
 
@@ -193,7 +198,7 @@ fn cost_in<'a>(matches: &ArgMatches<'a>) -> Result<Job<'a>, Field>
         region: region_in(matches),
         depth,
         precision,
-        way: Way::Cost(limits),
+        query: Query::Cost(limits),
     }))
 }
 

@@ -5,9 +5,9 @@ ghost use Rattle.lift_grid.specs.Rectangle.{most_halvings};
 ghost use Rattle.corner_lift.specs.Case.{most_precision};
 ghost use Rattle.plift_words.specs.Values.{most_steps};
 ghost use Rattle.lift_cert.specs.Bound.{IsBound, part_limit};
-ghost use Rattle.plift_words.specs.Way.{bound_told, steps_told, from_told, cap_told, is_reported, is_cost};
+ghost use Rattle.plift_words.specs.Query.{query_bound, query_steps, query_from, query_cap, is_reported, is_cost};
 
-use crate::way::Way;
+use crate::query::Query;
 use model_gen::Ladder;
 
 /// A part of the command line that can be at fault.
@@ -49,14 +49,14 @@ pub struct VerifyJob<'a> {
     pub precision: u32,
     /// What is asked, with its bound; a number of steps is from 1 to 64, the least precision of a range from 1 to the
     /// greatest, a cap at least 1.
-    pub way: Way,
+    pub query: Query,
     ghost in_range: { (depth ≤ most_halvings) × (1 ≤ precision) × (precision ≤ most_precision) },
-    ghost read_alone: { is_reported way ≡ true → (safe ≡ None) × (reward ≡ None) },
-    ghost reward_told: { is_cost way ≡ true → reward ≢ None },
-    ghost bound_is_one: { ForSome (bound_told way) (λ b. IsBound b × (b.den < part_limit)) },
-    ghost steps_in_range: { ForSome (steps_told way) (λ h. (1 ≤ h) × (h ≤ most_steps)) },
-    ghost from_in_range: { ForSome (from_told way) (λ from. (1 ≤ from) × (from ≤ precision)) },
-    ghost cap_in_range: { ForSome (cap_told way) (λ cap. 1 ≤ cap) },
+    ghost read_alone: { is_reported query ≡ true → (safe ≡ None) × (reward ≡ None) },
+    ghost reward_is_named: { is_cost query ≡ true → reward ≢ None },
+    ghost bound_is_one: { ForSome (query_bound query) (λ b. IsBound b × (b.den < part_limit)) },
+    ghost steps_in_range: { ForSome (query_steps query) (λ h. (1 ≤ h) × (h ≤ most_steps)) },
+    ghost from_in_range: { ForSome (query_from query) (λ from. (1 ≤ from) × (from ≤ precision)) },
+    ghost cap_in_range: { ForSome (query_cap query) (λ cap. 1 ≤ cap) },
 }
 
 /// To which depth a report is refined.

@@ -1,5 +1,5 @@
-//! The words of the command line: which lines are plain, the values of their options, and the job
-//! that they ask for.
+//! The words of the command line: which lines are plain, the values of their options, and the job, with its query, that
+//! they ask for.
 #![tactic(auto)]
 
 mod command;
@@ -8,11 +8,11 @@ mod job;
 mod laws;
 mod line;
 mod parser;
+mod query;
 mod values;
-mod way;
 
 pub use command::job_of;
 pub use error::WordsError;
 pub use job::{Field, Job, RefineJob, VerifyJob};
 pub use laws::plain_lines_ask;
-pub use way::{CostLimits, Way};
+pub use query::{CostLimits, Query};

@@ -1,4 +1,5 @@
-//! Properties: their formulas, until, and the model in which until is reach.
+//! Properties (a probability operator over a path formula): their formulas, until, and the model in which until is
+//! reach, since states that are neither safe nor goal are absorbing there.
 #![tactic(auto)]
 
 mod bound;

@@ -80,18 +80,18 @@ module _ (bound : Bound) (w q r : ℕ) (is : IsQuotient bound.num bound.den w q 
   apart_high Above e = absurd (true≢false e)
 
 -- a number below one that is the bound
-module _ (bound : Bound) (w : ℕ) (positive : 1 ≤ bound.den) (z : ℤ) (met : ((z +ℤ pos 1) *ℤ pos bound.den) ≡ (pos bound.num *ℤ pos (2 ^ w))) where
-  pub met_low : (op : Op) → is_closed op ≡ false → IsLowSide op bound w z
-  met_low AtMost e = absurd (true≢false e)
-  met_low Below e = omega (arith, linear, met, positive, add-mul z (pos 1) (pos bound.den), one-mul (pos bound.den))
-  met_low AtLeast e = omega (arith, linear, met, positive, add-mul z (pos 1) (pos bound.den), one-mul (pos bound.den))
-  met_low Above e = absurd (true≢false e)
+module _ (bound : Bound) (w : ℕ) (positive : 1 ≤ bound.den) (z : ℤ) (exact : ((z +ℤ pos 1) *ℤ pos bound.den) ≡ (pos bound.num *ℤ pos (2 ^ w))) where
+  pub exact_low : (op : Op) → is_closed op ≡ false → IsLowSide op bound w z
+  exact_low AtMost e = absurd (true≢false e)
+  exact_low Below e = omega (arith, linear, exact, positive, add-mul z (pos 1) (pos bound.den), one-mul (pos bound.den))
+  exact_low AtLeast e = omega (arith, linear, exact, positive, add-mul z (pos 1) (pos bound.den), one-mul (pos bound.den))
+  exact_low Above e = absurd (true≢false e)
 
-  pub met_high : (op : Op) → is_closed op ≡ false → IsHighSide op bound w (z +ℤ pos 1)
-  met_high AtMost e = absurd (true≢false e)
-  met_high Below e = omega (arith, linear, met)
-  met_high AtLeast e = omega (arith, linear, met)
-  met_high Above e = absurd (true≢false e)
+  pub exact_high : (op : Op) → is_closed op ≡ false → IsHighSide op bound w (z +ℤ pos 1)
+  exact_high AtMost e = absurd (true≢false e)
+  exact_high Below e = omega (arith, linear, exact)
+  exact_high AtLeast e = omega (arith, linear, exact)
+  exact_high Above e = absurd (true≢false e)
 
 -- ---- beside it
 

@@ -13,7 +13,7 @@ use Rattle.rounded_iter.specs.Watching.{IsLeastWithin}
 use Rattle.lift_dual.specs.Property.{IsLowSide, IsHighSide, is_upper}
 use Rattle.lift_dual.specs.Laws.{SidesAreApart}
 use Rattle.lift_dual.specs.Sides.{IsUpperOne}
-use Rattle.lift_dual.specs.Picking.{IsLeastUpperOneWithin}
+use Rattle.lift_dual.specs.Choosing.{IsLeastUpperOneWithin}
 use Rattle.lift_dual.specs.Greatest.{IsGreatestAllAbove, NoneOfAllIsAbove}
 use Rattle.region_tree.specs.Decided.{lane, reject_in}
 use Rattle.region_tree.specs.declared.pools.Pools.{Pools}

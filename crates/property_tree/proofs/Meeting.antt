@@ -16,14 +16,14 @@ use Rattle.property_text.specs.declared.op.Op.{Op}
 use Rattle.lift_dual.specs.Laws.{LowerAllIsBelowUpperOne, SidesAreApart}
 use Rattle.lift_dual.specs.Property.{is_upper, IsHighSide}
 use Rattle.region_tree.specs.Laws.{MeetingRectanglesShare}
-use Rattle.region_tree.specs.Recent.{RecentData, DecidedData, MeetsOne, sides_at, IsNoted, IsForetold, forgotten}
+use Rattle.region_tree.specs.Recent.{RecentData, DecidedData, MeetsOne, sides_at, IsNoted, IsInferred, forgotten}
 use Rattle.region_tree.specs.declared.decided.Outlook.{Outlook}
 use Rattle.region_tree.specs.declared.pools.Pools.{Pools}
 use Rattle.property_tree.specs.Decided.{IsDecidedFor, NoneFromAbove, NoneFromBelow, lower_all_in, lower_in, upper_in}
 use Rattle.property_tree.specs.Leaves.{PropertyLeaf, IsCertificate, Settles, DecidesFor, bounds_above}
 use Rattle.region_tree.specs.Decided.{lane, reject_in}
 use Rattle.property_tree.proofs.Single.{certificate_of}
-use Rattle.property_tree.specs.Recent.{IsTold, AreTold, IsSoundFor, NotesFor}
+use Rattle.property_tree.specs.Recent.{IsCertified, AreCertified, IsSoundFor, NotesFor}
 use Rattle.property_tree.specs.declared.decision.Verdict.{Verdict}
 use Rattle.property_tree.specs.declared.decision.Verdict.TheVariants.{Above, Below}
 
@@ -94,14 +94,14 @@ module _ (one_kind : NotBothKindsAtAValuation) (below_one : LowerAllIsBelowUpper
 
 -- ---- what is foretold holds
 
-module _ (one_kind : NotBothKindsAtAValuation) (below_one : LowerAllIsBelowUpperOne) (apart : SidesAreApart) (numbers : NumbersAreInRange) (share : MeetingRectanglesShare) (fit : RanksFit) (k : CaseData) (is : IsCase k) (op : Op) (bound : Bound) (d : DecidedData) (told : AreTold k op bound d) (spans : Spans) (inside : IsInside k.root spans) where
+module _ (one_kind : NotBothKindsAtAValuation) (below_one : LowerAllIsBelowUpperOne) (apart : SidesAreApart) (numbers : NumbersAreInRange) (share : MeetingRectanglesShare) (fit : RanksFit) (k : CaseData) (is : IsCase k) (op : Op) (bound : Bound) (d : DecidedData) (certified : AreCertified k op bound d) (spans : Spans) (inside : IsInside k.root spans) where
   rectangle_inside : (sides : List ℤ) → AreSidesInside k.root sides → IsInside k.root (spans_of sides)
   rectangle_inside sides h = record { rectangle = h.rectangle.spans; within = h.within }
 
   none_above : MeetsOne spans d.rejected → NoneFromAbove k op bound spans
   none_above meets leaf above certificate settles =
       let sides = sides_at d.rejected meets.0 in
-      let other = told.below meets.0 meets.1.0 in
+      let other = certified.below meets.0 meets.1.0 in
       let there = rectangle_inside sides other.inside in
       let v = share k (spans_of sides) spans is there inside meets.1.1 in
       not_both one_kind below_one apart numbers k is op bound spans (spans_of sides) inside there v.0 v.1.1 v.1.0 leaf other.leaf above other.kind certificate other.certificate settles other.settles
@@ -109,7 +109,7 @@ module _ (one_kind : NotBothKindsAtAValuation) (below_one : LowerAllIsBelowUpper
   none_below : MeetsOne spans d.accepted → NoneFromBelow k op bound spans
   none_below meets =
       let sides = sides_at d.accepted meets.0 in
-      let other = told.above meets.0 meets.1.0 in
+      let other = certified.above meets.0 meets.1.0 in
       let there = rectangle_inside sides other.inside in
       let v = share k (spans_of sides) spans is there inside meets.1.1 in
       record {
@@ -117,8 +117,8 @@ module _ (one_kind : NotBothKindsAtAValuation) (below_one : LowerAllIsBelowUpper
         none_higher = λ most u holds side. not_both_any one_kind below_one apart numbers k is op bound (spans_of sides) spans there inside v.0 v.1.0 v.1.1 fit other.leaf other.kind other.certificate other.settles most u holds side;
       }
 
-  pub foretold_is_sound : (o : Outlook) → IsForetold d spans o → IsSoundFor k op bound spans o
-  foretold_is_sound o foretold = record { above = λ no. none_above (foretold.accepts.0 no); below = λ no. none_below (foretold.rejects.0 no) }
+  pub inferred_is_sound : (o : Outlook) → IsInferred d spans o → IsSoundFor k op bound spans o
+  inferred_is_sound o inferred = record { above = λ no. none_above (inferred.accepts.0 no); below = λ no. none_below (inferred.rejects.0 no) }
 
 -- ---- what is noted has its certificate
 
@@ -149,20 +149,20 @@ noted_too P sides old new noted here all i lt =
     (λ other. let at = noted.1.others i lt other in subst P (sym at.1) (all i at.0))
 
 module _ (k : CaseData) (op : Op) (bound : Bound) (sides : List ℤ) (inside : AreSidesInside k.root sides) where
-  told_by : (leaf : PropertyLeaf) (above : Bool) → bounds_above leaf ≡ above → DecidesFor k op bound (spans_of sides) leaf → IsTold k op bound above sides
-  told_by leaf above kind decides = record { inside = inside; leaf = leaf; kind = kind; certificate = certificate_of k (spans_of sides) leaf decides.0; settles = decides.1 }
+  certified_by : (leaf : PropertyLeaf) (above : Bool) → bounds_above leaf ≡ above → DecidesFor k op bound (spans_of sides) leaf → IsCertified k op bound above sides
+  certified_by leaf above kind decides = record { inside = inside; leaf = leaf; kind = kind; certificate = certificate_of k (spans_of sides) leaf decides.0; settles = decides.1 }
 
-  pub told_too : (p : Pools) (found : Option Verdict) (old new : DecidedData) → IsDecidedFor k op bound (spans_of sides) p found → AreTold k op bound old → NotesFor sides found old new → AreTold k op bound new
-  told_too p (Some Above) old new decided told notes = record {
-    above = noted_too (IsTold k op bound true) sides old.accepted new.accepted notes.0 (told_by (upper_in op p) true (upper_bounds op p) decided) told.above;
-    below = rw notes.1 told.below;
+  pub certified_too : (p : Pools) (found : Option Verdict) (old new : DecidedData) → IsDecidedFor k op bound (spans_of sides) p found → AreCertified k op bound old → NotesFor sides found old new → AreCertified k op bound new
+  certified_too p (Some Above) old new decided certified notes = record {
+    above = noted_too (IsCertified k op bound true) sides old.accepted new.accepted notes.0 (certified_by (upper_in op p) true (upper_bounds op p) decided) certified.above;
+    below = rw notes.1 certified.below;
   }
-  told_too p (Some (Below e height)) old new decided told notes = record {
-    above = rw notes.1 told.above;
-    below = noted_too (IsTold k op bound false) sides old.rejected new.rejected notes.0 (told_by (lower_in op p e height) false (lower_bounds op p e height) decided) told.below;
+  certified_too p (Some (Below e height)) old new decided certified notes = record {
+    above = rw notes.1 certified.above;
+    below = noted_too (IsCertified k op bound false) sides old.rejected new.rejected notes.0 (certified_by (lower_in op p e height) false (lower_bounds op p e height) decided) certified.below;
   }
-  told_too p None old new decided told notes = rw notes told
+  certified_too p None old new decided certified notes = rw notes certified
 
 -- where none is noted, nothing is said
-pub none_told : (k : CaseData) (op : Op) (bound : Bound) (d : DecidedData) → AreTold k op bound (forgotten d)
-none_told k op bound d = record { above = λ i lt. absurd (omega (arith, lt)); below = λ i lt. absurd (omega (arith, lt)) }
+pub none_certified : (k : CaseData) (op : Op) (bound : Bound) (d : DecidedData) → AreCertified k op bound (forgotten d)
+none_certified k op bound d = record { above = λ i lt. absurd (omega (arith, lt)); below = λ i lt. absurd (omega (arith, lt)) }

@@ -13,9 +13,9 @@ use Rattle.property_tree.specs.Rooms.{PropertyLanesData, HasPropertyLanes, Keeps
 use Rattle.lift_cert.specs.declared.bound.Bound.{Bound}
 use Rattle.property_text.specs.declared.op.Op.{Op}
 use Rattle.region_tree.specs.Recent.{DecidedData, HasAllPlaces, KeepsPlaces, forgotten}
-use Rattle.property_tree.specs.Recent.{AreTold}
+use Rattle.property_tree.specs.Recent.{AreCertified}
 use Rattle.property_tree.proofs.Lanes.{same_pool, same_pools, pool_then, pools_then, pools_kept}
-use Rattle.property_tree.proofs.Meeting.{none_told}
+use Rattle.property_tree.proofs.Meeting.{none_certified}
 
 -- ---- a room as it is made
 
@@ -51,12 +51,12 @@ lanes_kept m l a b h g = record {
 }
 
 -- a decision that keeps the shape of the lanes, and notes what a certificate tells, leaves them ready
-pub still_ready : (k : CaseData) (l : LinksData) (op : Op) (bound : Bound) (made a b : PropertyLanesData) → KeepsShape a b → AreTold k op bound b.decided → AreReadyFor k l op bound made a → AreReadyFor k l op bound made b
-still_ready k l op bound made a b h told ready = record {
+pub still_ready : (k : CaseData) (l : LinksData) (op : Op) (bound : Bound) (made a b : PropertyLanesData) → KeepsShape a b → AreCertified k op bound b.decided → AreReadyFor k l op bound made a → AreReadyFor k l op bound made b
+still_ready k l op bound made a b h certified ready = record {
   links = ready.links;
   has = lanes_kept k.model l a b h ready.has;
   shape = shape_after made a b ready.shape h;
-  told = told;
+  certified = certified;
 }
 
 -- ---- where a walk begins
@@ -71,4 +71,4 @@ same_shape a = record { collapse = refl; weights = same_pool a.weights; pools = 
 pub ready_at_first : (k : CaseData) (l : LinksData) (op : Op) (bound : Bound) (a : PropertyLanesData) → AreLinks k.model l → HasPropertyLanes k.model l a → let b : PropertyLanesData = record a { decided = forgotten a.decided } in AreReadyFor k l op bound b b
 ready_at_first k l op bound a links has =
     let b : PropertyLanesData = record a { decided = forgotten a.decided } in
-    record { links = links; has = lanes_kept k.model l a b (begun_keeps a) has; shape = same_shape b; told = none_told k op bound a.decided }
+    record { links = links; has = lanes_kept k.model l a b (begun_keeps a) has; shape = same_shape b; certified = none_certified k op bound a.decided }

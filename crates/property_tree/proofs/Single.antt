@@ -16,7 +16,7 @@ use Rattle.lift_walk.specs.Sides.{IsAtDepth}
 use Rattle.property_text.specs.declared.op.Op.{Op}
 use Rattle.lift_dual.specs.Avoiding.{IsGreatestLowerAll, IsRateOfAll, StagesAreLeast}
 use Rattle.lift_dual.specs.Laws.{LowerAllIsBelowUpperOne, SidesAreApart}
-use Rattle.lift_dual.specs.Picking.{IsLowestMet, IsLowestPick, AreLowestPicks, IsLeastUpperOne}
+use Rattle.lift_dual.specs.Choosing.{IsLowestSatisfied, IsLowestChoice, AreLowestChoices, IsLeastUpperOne}
 use Rattle.region_tree.specs.Laws.{LeastUppersAreOne, GreatestLowersAreOne}
 use Rattle.property_tree.specs.Laws.{LeavesAreOne}
 use Rattle.property_tree.specs.Leaves.{PropertyLeaf, IsCertificate, IsBest, DecidesFor, IsOpenFor, IsRightFor}
@@ -37,26 +37,26 @@ less_or_not a b = grind arith
 -- ---- upper vectors for one scheduler
 
 module _ (k : CaseData) (spans : Spans) where
-  lowest_is_one : (x : List ℤ) (s p q : ℕ) → IsLowestMet k spans x s p → IsLowestMet k spans x s q → p ≡ q
+  lowest_is_one : (x : List ℤ) (s p q : ℕ) → IsLowestSatisfied k spans x s p → IsLowestSatisfied k spans x s q → p ≡ q
   lowest_is_one x s p q h g = ⊎_elim
       (λ (less : p < q). absurd (g.least p less h.holds))
       (λ (rest : (p ≡ q) ⊎ (q < p)). ⊎_elim (λ (same : p ≡ q). same) (λ (more : q < p). absurd (h.least q more g.holds)) rest)
       (in_order p q)
 
-  pick_is_one : (x : List ℤ) (s p q : ℕ) → IsLowestPick k spans x s p → IsLowestPick k spans x s q → p ≡ q
-  pick_is_one x s p q h g = ⊎_elim
+  choice_is_one : (x : List ℤ) (s p q : ℕ) → IsLowestChoice k spans x s p → IsLowestChoice k spans x s q → p ≡ q
+  choice_is_one x s p q h g = ⊎_elim
       (λ (goal : is_goal k.model s ≡ true). h.none goal ∙ sym (g.none goal))
-      (λ (other : is_goal k.model s ≡ false). lowest_is_one x s p q (h.picked other) (g.picked other))
+      (λ (other : is_goal k.model s ≡ false). lowest_is_one x s p q (h.chosen other) (g.chosen other))
       (true_or_false (is_goal k.model s))
 
-  picks_are_one : (x : List ℤ) (a b : List ℕ) → AreLowestPicks k spans x a → AreLowestPicks k spans x b → a ≡ b
-  picks_are_one x a b h g = ext_get_or unmarked a b (h.size ∙ sym g.size)
-      (λ s lt. let state : s < length k.model.states = omega (arith, lt, h.size) in pick_is_one x s (mark a s) (mark b s) (h.each s state) (g.each s state))
+  choices_are_one : (x : List ℤ) (a b : List ℕ) → AreLowestChoices k spans x a → AreLowestChoices k spans x b → a ≡ b
+  choices_are_one x a b h g = ext_get_or unmarked a b (h.size ∙ sym g.size)
+      (λ s lt. let state : s < length k.model.states = omega (arith, lt, h.size) in choice_is_one x s (mark a s) (mark b s) (h.each s state) (g.each s state))
 
   upper_one_is_one : (x y : List ℤ) (a b : List ℕ) → IsLeastUpperOne k spans x a → IsLeastUpperOne k spans y b → PropertyLeaf.upper_one x a ≡ PropertyLeaf.upper_one y b
   upper_one_is_one x y a b h g =
       let numbers : x ≡ y = numbers_same x y (h.upper.numbers.size ∙ sym g.upper.numbers.size) (h.least y b g.upper) (g.least x a h.upper) in
-      let picks : a ≡ b = picks_are_one y a b (subst (λ n. AreLowestPicks k spans n a) numbers h.lowest) g.lowest in
+      let picks : a ≡ b = choices_are_one y a b (subst (λ n. AreLowestChoices k spans n a) numbers h.lowest) g.lowest in
       ap (λ (n : List ℤ). PropertyLeaf.upper_one n a) numbers ∙ ap (λ (n : List ℕ). PropertyLeaf.upper_one y n) picks
 
 -- ---- lower vectors for every scheduler

@@ -11,7 +11,7 @@ use Rattle.lower_cert.specs.AnyRanks.{UnboundedReject, IsUnboundedLower}
 use Rattle.property_text.specs.declared.op.Op.{Op}
 use Rattle.lift_dual.specs.Property.{is_upper, IsLowSide, IsHighSide}
 use Rattle.lift_dual.specs.Sides.{IsUpperOne, IsLowerAll}
-use Rattle.lift_dual.specs.Picking.{IsLeastUpperOne}
+use Rattle.lift_dual.specs.Choosing.{IsLeastUpperOne}
 use Rattle.lift_dual.specs.Avoiding.{IsGreatestLowerAll}
 
 -- a decided leaf, by its certificate

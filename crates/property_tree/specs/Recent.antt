@@ -12,7 +12,7 @@ use Rattle.property_tree.specs.declared.decision.Verdict.{Verdict}
 use Rattle.property_tree.specs.declared.decision.Verdict.TheVariants.{Above, Below}
 
 -- the sides of a rectangle inside the root, of which a certificate from above, or from below, tells whether the property holds
-pub record IsTold (k : CaseData) (op : Op) (bound : Bound) (above : Bool) (sides : List ℤ) : Type 0 where
+pub record IsCertified (k : CaseData) (op : Op) (bound : Bound) (above : Bool) (sides : List ℤ) : Type 0 where
   pub inside : AreSidesInside k.root sides
   pub leaf : PropertyLeaf
   pub kind : bounds_above leaf ≡ above
@@ -20,9 +20,9 @@ pub record IsTold (k : CaseData) (op : Op) (bound : Bound) (above : Bool) (sides
   pub settles : Settles k op bound leaf
 
 -- so it is of all rectangles that are noted: from above of those that were accepted, and from below of those that were rejected
-pub record AreTold (k : CaseData) (op : Op) (bound : Bound) (d : DecidedData) : Type 0 where
-  pub above : (i : ℕ) → i < d.accepted.count → IsTold k op bound true (sides_at d.accepted i)
-  pub below : (i : ℕ) → i < d.rejected.count → IsTold k op bound false (sides_at d.rejected i)
+pub record AreCertified (k : CaseData) (op : Op) (bound : Bound) (d : DecidedData) : Type 0 where
+  pub above : (i : ℕ) → i < d.accepted.count → IsCertified k op bound true (sides_at d.accepted i)
+  pub below : (i : ℕ) → i < d.rejected.count → IsCertified k op bound false (sides_at d.rejected i)
 
 -- certificates are left out only where none of their kind tells
 pub record IsSoundFor (k : CaseData) (op : Op) (bound : Bound) (spans : Spans) (o : Outlook) : Type 0 where

@@ -13,7 +13,7 @@ use Rattle.property_text.specs.declared.op.Op.{Op}
 use Rattle.region_tree.specs.Recent.{DecidedData, HasAllPlaces, KeepsPlaces}
 use Rattle.region_tree.specs.Rooms.{HasPools, KeepsPools, collapse_of}
 use Rattle.region_tree.specs.declared.pools.Pools.{Pools}
-use Rattle.property_tree.specs.Recent.{AreTold}
+use Rattle.property_tree.specs.Recent.{AreCertified}
 
 -- What the decision of a rectangle works in: the collapsed model of the case, if it is worth one, the table of corner weights, the lanes in which vectors are found, and the rectangles of a walk that were decided last.
 pub record PropertyLanesData : Type 0 where
@@ -56,4 +56,4 @@ pub record AreReadyFor (k : CaseData) (l : LinksData) (op : Op) (bound : Bound) 
   pub links : AreLinks k.model l
   pub has : HasPropertyLanes k.model l lanes
   pub shape : KeepsShape made lanes
-  pub told : AreTold k op bound lanes.decided
+  pub certified : AreCertified k op bound lanes.decided

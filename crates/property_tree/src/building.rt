@@ -42,7 +42,7 @@ pub enum DualBranch {
         x: Values,
         picks: Marks,
     },
-    /// A leaf that a lower vector of one scheduler decides, with its rate, and the number, the pick and the rank of
+    /// A leaf that a lower vector of one scheduler decides, with its rate, and the number, the chosen row and the rank of
     /// each state, `u32::MAX` standing for none.
     Lower {
         e: u32,

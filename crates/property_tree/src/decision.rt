@@ -17,7 +17,7 @@ ghost use Rattle.property_tree.specs.Decided.{
   lower_in,
   upper_in,
 };
-ghost use Rattle.property_tree.specs.Recent.{AreTold, IsSoundFor, NotesFor};
+ghost use Rattle.property_tree.specs.Recent.{AreCertified, IsSoundFor, NotesFor};
 
 use crate::question::Question;
 use crate::room::PropertyLanes;
@@ -78,7 +78,7 @@ impl Search<'_> {
     }
 
     /// The rate and the height of a certificate from below that tells, if one may and does. Then the greatest lower
-    /// vector, its ranks and its picks are in the lanes.
+    /// vector, its ranks and its choices are in the lanes.
     fn find_below(
         &self,
         may: bool,
@@ -204,9 +204,9 @@ impl Question<'_, '_> {
         requires links { AreLinks self.now.case.now.model self.now.links.now }
         requires lanes { HasPropertyLanes self.now.case.now.model self.now.links.now lanes.old }
         requires sides { AreSidesInside self.now.case.now.root sides.now }
-        requires told { AreTold self.now.case.now self.now.op self.now.bound lanes.old.decided }
+        requires certified { AreCertified self.now.case.now self.now.op self.now.bound lanes.old.decided }
         ensures shape { KeepsShape lanes.old lanes.new }
-        ensures told { AreTold self.now.case.now self.now.op self.now.bound lanes.new.decided }
+        ensures certified { AreCertified self.now.case.now self.now.op self.now.bound lanes.new.decided }
         ensures decided { IsDecidedFor self.now.case.now self.now.op self.now.bound (spans_of sides.now)
             lanes.new.pools result }
     {

@@ -1,5 +1,5 @@
-//! The tree of a region for a property that compares a probability with a bound: what is reached at least, for
-//! every scheduler, or at most.
+//! The tree of a region for a property that compares a probability with a bound (region verification of until): what is
+//! reached at least, for every scheduler, or at most.
 #![tactic(auto)]
 
 mod building;

@@ -6,14 +6,14 @@ ghost use Rattle.lift_grid.specs.Rectangle.{Spans};
 ghost use Rattle.lift_model.specs.declared.kind.Kind.TheVariants.{Dtmc};
 ghost use Rattle.lift_collapse.specs.Filled.{IsFilled};
 ghost use Rattle.lift_dual.specs.Greatest.{IsGreatestAllAbove, NoneOfAllIsAbove};
-ghost use Rattle.lift_dual.specs.Picking.{IsLeastUpperOneWithin};
+ghost use Rattle.lift_dual.specs.Choosing.{IsLeastUpperOneWithin};
 ghost use Rattle.region_tree.specs.Decided.{CanAsk, lane};
 ghost use Rattle.region_tree.specs.Rooms.{HasPools, KeepsPools};
 ghost use Rattle.property_tree.specs.Decided.{lower_all_in};
 
 use corner_lift::Lifted;
 use lift_collapse::{Collapse, Sought};
-use lift_dual::{chains_have_one_scheduler, greatest_all_above, least_one_within, pick_first};
+use lift_dual::{chains_have_one_scheduler, choose_first, greatest_all_above, least_one_within};
 use lift_model::Kind;
 use lift_pool::lanes_stand_alone;
 use lower_cert::Rate;
@@ -101,12 +101,12 @@ fn upper_of_chain(
     if !finder.least_upper_within(limit, collapse, pools) {
         return false;
     }
-    pick_first(finder.case.model(), pools.picks.lane_mut(0));
+    choose_first(finder.case.model(), pools.picks.lane_mut(0));
     true
 }
 
 /// Whether an upper vector for one scheduler exists whose number of the initial state is within the limit. Then the
-/// least one is in the values, and its choices are in the picks.
+/// least one is in the values, and its choices stand in `picks`.
 pub(crate) fn upper_one_within(
     finder: &Finder,
     limit: i64,

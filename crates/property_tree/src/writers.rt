@@ -49,7 +49,7 @@ fn write_numbers<'x, K: Sink>(
     )
 }
 
-/// Writes a line of the picks or the ranks of the states.
+/// Writes a line of the choices or the ranks of the states.
 fn write_mark_line<K: Sink>(out: &mut K, key: &[u8], marks: &[u32]) -> Result<(), WriteFault>
     ensures { Wrote K.taken K.faults out.old out.new result (line (key.now ∷ map mark_word marks.now)) }
 {

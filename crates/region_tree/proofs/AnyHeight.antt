@@ -6,7 +6,7 @@ use Rattle.lift_grid.specs.Tree.{RejectData}
 use Rattle.lift_model.specs.Model.{is_goal}
 use Rattle.corner_lift.specs.Corner.{AtCorners, corner_sum, whole}
 use Rattle.corner_lift.specs.Case.{CaseData, IsCase, number}
-use Rattle.corner_lift.specs.Certificate.{unmarked, mark, ranked_below, picked_row, IsLower}
+use Rattle.corner_lift.specs.Certificate.{unmarked, mark, ranked_below, chosen_row, IsLower}
 use Rattle.lift_cert.specs.Certificate.{IsBeyond, IsRejecting}
 use Rattle.lift_cert.specs.declared.bound.Bound.{Bound}
 use Rattle.lower_cert.specs.AnyRanks.{UnboundedReject, IsHeldAtRank, IsUnboundedLower, RanksFit, some_below}
@@ -23,11 +23,11 @@ none_at_any_height fit k spans bound is none u rejecting =
 abbrev some_mark : ℕ → Option ℕ
 some_mark n = cond (nat_lt n unmarked) (Some n) None
 
--- the pick of a ranked state that is no goal state, or none
-abbrev pick_of : Bool → Bool → ℕ → Option ℕ
-pick_of true ranked pick = None
-pick_of false true pick = Some pick
-pick_of false false pick = None
+-- the chosen row of a ranked state that is no goal state, or none
+abbrev choice_of : Bool → Bool → ℕ → Option ℕ
+choice_of true ranked pick = None
+choice_of false true pick = Some pick
+choice_of false false pick = None
 
 some_mark_small : (n q : ℕ) → some_mark n ≡ Some q → n < unmarked
 some_mark_small n q = cond_both (nat_lt n unmarked) (Some n) None (λ o. o ≡ Some q → n < unmarked) (λ e h. ltb-true n unmarked e) (λ e h. cc)
@@ -54,7 +54,7 @@ module _ (k : CaseData) (spans : Spans) (r : RejectData) (h : IsLower k spans r)
   abbrev data_of : UnboundedReject
   data_of = record {
     numbers = r.numbers;
-    pick = λ s. pick_of (is_goal k.model s) (nat_lt (mark r.ranks s) unmarked) (mark r.picks s);
+    pick = λ s. choice_of (is_goal k.model s) (nat_lt (mark r.ranks s) unmarked) (mark r.picks s);
     rank = λ s. some_mark (mark r.ranks s);
     e = r.e;
     k = r.k;
@@ -71,10 +71,10 @@ module _ (k : CaseData) (spans : Spans) (r : RejectData) (h : IsLower k spans r)
       record {
         range = (subst (λ i. 1 ≤ i) same held.rank.0, subst (λ i. i ≤ r.k) same held.rank.1);
         choice = mark r.picks s;
-        is_pick = let ranked = lt-ltb (mark r.ranks s) unmarked small in rw (f, ranked) refl;
+        is_choice = let ranked = lt-ltb (mark r.ranks s) unmarked small in rw (f, ranked) refl;
         in_range = held.pick;
         means = held.means;
-        rates = subst (λ (g : ℕ → ℤ). AtCorners spans (picked_row k r s) (λ c. whole k.model k.d spans (picked_row k r s) ≤ℤ (corner_sum k.d spans (picked_row k r s) c g *ℤ pos (2 ^ r.e)))) counts held.rates;
+        rates = subst (λ (g : ℕ → ℤ). AtCorners spans (chosen_row k r s) (λ c. whole k.model k.d spans (chosen_row k r s) ≤ℤ (corner_sum k.d spans (chosen_row k r s) c g *ℤ pos (2 ^ r.e)))) counts held.rates;
       }
 
   -- a lower vector is one of those without a bound

@@ -41,12 +41,12 @@ module _ (keeps : CappingKeeps) (capped : StuckAreCapped) (greatest : StagesAreG
   -- ---- where no state without rank has a number above 0
 
   module _ (v : ℕ → ℕ) (is : IsAboveLowers k spans v) (pick rank : ℕ → ℕ) (staged : AreStaged k spans (IsAllowed k spans (over v)) pick rank) (none : (s : ℕ) → s < n → unmarked ≤ rank s → v s ≤ 0)
-      (x : List ℤ) (picks ranks : List ℕ) (size_x : length x ≡ n) (size_picks : length picks ≡ n) (size_ranks : length ranks ≡ n) (same_x : number x ≡ over v) (same_picks : mark picks ≡ pick) (same_ranks : mark ranks ≡ rank) where
+      (x : List ℤ) (picks ranks : List ℕ) (size_x : length x ≡ n) (size_choices : length picks ≡ n) (size_ranks : length ranks ≡ n) (same_x : number x ≡ over v) (same_choices : mark picks ≡ pick) (same_ranks : mark ranks ≡ rank) where
     number_at : (s : ℕ) → number x s ≡ pos (v s)
     number_at s = ap (λ (y : ℕ → ℤ). y s) same_x
 
-    pick_at : (s : ℕ) → mark picks s ≡ pick s
-    pick_at s = ap (λ (f : ℕ → ℕ). f s) same_picks
+    choice_at : (s : ℕ) → mark picks s ≡ pick s
+    choice_at s = ap (λ (f : ℕ → ℕ). f s) same_choices
 
     rank_at : (s : ℕ) → mark ranks s ≡ rank s
     rank_at s = ap (λ (f : ℕ → ℕ). f s) same_ranks
@@ -54,7 +54,7 @@ module _ (keeps : CappingKeeps) (capped : StuckAreCapped) (greatest : StagesAreG
     stages : AreStages k spans (IsAllowed k spans (number x)) (mark picks) (mark ranks)
     stages =
         subst (λ (r : ℕ → ℕ). AreStages k spans (IsAllowed k spans (number x)) (mark picks) r) (sym same_ranks)
-        (subst (λ (p : ℕ → ℕ). AreStages k spans (IsAllowed k spans (number x)) p rank) (sym same_picks)
+        (subst (λ (p : ℕ → ℕ). AreStages k spans (IsAllowed k spans (number x)) p rank) (sym same_choices)
         (subst (λ (y : ℕ → ℤ). AreStages k spans (IsAllowed k spans y) pick rank) (sym same_x) staged.stages))
 
     -- a ranked state is one of the states
@@ -81,7 +81,7 @@ module _ (keeps : CappingKeeps) (capped : StuckAreCapped) (greatest : StagesAreG
     -- 126 is a rate of all picks
     some_rate : RatesAt 126
     some_rate s lt f ranked c corner =
-        let p = stages.picked s f ranked in
+        let p = stages.chosen s f ranked in
         let row = row_at k.model s (mark picks s) in
         let weight = corner_sum k.d spans row c (ranked_below (mark ranks) (mark ranks s)) in
         let leads : pos 0 <ℤ weight = p.leads c corner in
@@ -122,11 +122,11 @@ module _ (keeps : CappingKeeps) (capped : StuckAreCapped) (greatest : StagesAreG
         let height = least_height.1 in
         greatest k spans certificate
         (record { size = size_x; range = All-from_get_or (λ m. (pos 0 ≤ℤ m) × (m ≤ℤ pos (2 ^ k.w))) x (pos 0) (λ i lt. (omega (arith, linear, number_at i), omega (arith, linear, number_at i, is.small i))) })
-        (size_picks, size_ranks)
+        (size_choices, size_ranks)
         (All-from_get_or (λ m. m ≤ unmarked) ranks unmarked (λ i lt. subst (λ m. m ≤ unmarked) (sym (rank_at i)) (staged.small i)))
         (rate.least 126 some_rate, height.holds.0, let most = height.least (suc n) some_height in omega (arith, most, few))
-        (λ s g. (number_at s ∙ ap pos (is.goal s g), pick_at s ∙ staged.goal_pick s g))
-        (λ s f far. (unranked_zero s far, pick_at s ∙ staged.free_pick s (subst (λ m. unmarked ≤ m) (rank_at s) far)))
+        (λ s g. (number_at s ∙ ap pos (is.goal s g), choice_at s ∙ staged.goal_choice s g))
+        (λ s f far. (unranked_zero s far, choice_at s ∙ staged.free_choice s (subst (λ m. unmarked ≤ m) (rank_at s) far)))
         stages
         (λ s ranked. height.holds.1 s (ranked_in s ranked) ranked)
         (λ s f ranked. rate.holds s (ranked_in s ranked) f ranked)
@@ -220,12 +220,12 @@ module _ (keeps : CappingKeeps) (capped : StuckAreCapped) (greatest : StagesAreG
         let picks : List ℕ = listed pick n in
         let ranks : List ℕ = listed rank n in
         let size_x = listed-length (over v) n in
-        let size_picks = listed-length pick n in
+        let size_choices = listed-length pick n in
         let size_ranks = listed-length rank n in
         let same_x : number x ≡ over v = listed-is (over v) n (pos 0) (λ i le. ap pos (a.1.past i le)) in
-        let same_picks : mark picks ≡ pick = listed-is pick n unmarked (λ i le. stages.free_pick i (subst (λ q. unmarked ≤ q) (sym (stages.past i le)) (omega arith))) in
+        let same_choices : mark picks ≡ pick = listed-is pick n unmarked (λ i le. stages.free_choice i (subst (λ q. unmarked ≤ q) (sym (stages.past i le)) (omega arith))) in
         let same_ranks : mark ranks ≡ rank = listed-is rank n unmarked stages.past in
-        inl (certificate v a.1 pick rank stages level.holds x picks ranks size_x size_picks size_ranks same_x same_picks same_ranks, is_greatest v a.1 pick rank stages level.holds x picks ranks size_x size_picks size_ranks same_x same_picks same_ranks)
+        inl (certificate v a.1 pick rank stages level.holds x picks ranks size_x size_choices size_ranks same_x same_choices same_ranks, is_greatest v a.1 pick rank stages level.holds x picks ranks size_x size_choices size_ranks same_x same_choices same_ranks)
     step_at a pick rank stages (suc m) level =
         ⊎_elim
         (λ (all : LevelAt a.0 rank m). absurd (let most = level.least m all in omega (arith, most)))

@@ -14,7 +14,7 @@ use Rattle.lower_cert.specs.AnyRanks.{RanksFit}
 use Rattle.region_tree.specs.Decided.{IsDecidedBy}
 use Rattle.lift_range.specs.Laws.{AcceptingDoubles, RejectingDoubles}
 use Rattle.region_tree.proofs.Ranges.{accepting_at_last, rejecting_at_last}
-use Rattle.region_tree.specs.Recent.{RecentData, DecidedData, Meet, MeetsOne, sides_at, IsNoted, Notes, NotesAccepted, NotesRejected, IsForetold, HasAccepting, HasRejecting, AreCertified, IsSound, forgotten}
+use Rattle.region_tree.specs.Recent.{RecentData, DecidedData, Meet, MeetsOne, sides_at, IsNoted, Notes, NotesAccepted, NotesRejected, IsInferred, HasAccepting, HasRejecting, AreCertified, IsSound, forgotten}
 use Rattle.region_tree.specs.Laws.{MeetingRectanglesShare}
 use Rattle.region_tree.specs.Right.{NoneRejects}
 use Rattle.region_tree.specs.declared.decided.Outlook.{Outlook}
@@ -90,8 +90,8 @@ module _ (one_kind : NotBothKindsAtAValuation) (fit : RanksFit) (k : CaseData) (
       let v = shared_valuation k.d (spans_of sides) spans is.asked.grid.positive there.rectangle inside.rectangle meets.1.1 in
       none_at_any_height fit k spans bound is (λ r rejecting. one_kind k (spans_of sides) spans bound other.certificate.0 r v.0 is there inside v.1.0 v.1.1 other.certificate.1 rejecting)
 
-  pub foretold_is_sound : (o : Outlook) → IsForetold d spans o → IsSound k bound spans o
-  foretold_is_sound o told = record { accepts = λ no. none_accepts (told.accepts.0 no); rejects = λ no. none_rejects (told.rejects.0 no) }
+  pub inferred_is_sound : (o : Outlook) → IsInferred d spans o → IsSound k bound spans o
+  inferred_is_sound o reported = record { accepts = λ no. none_accepts (reported.accepts.0 no); rejects = λ no. none_rejects (reported.rejects.0 no) }
 
 -- ---- what is noted has its certificate
 

@@ -8,7 +8,7 @@ use Rattle.lift_model.specs.declared.kind.Kind.TheVariants.{Mdp}
 use Rattle.lift_model.specs.Model.{ModelData, is_goal, choices}
 use Rattle.corner_lift.specs.Case.{CaseData, at, number}
 use Rattle.corner_lift.specs.Certificate.{IsUpper, IsLower, IsHeld, MeansAtMost, mark, unmarked}
-use Rattle.corner_lift.specs.Stages.{IsAllowed, IsPicked, LeadsBelow}
+use Rattle.corner_lift.specs.Stages.{IsAllowed, IsChosen, LeadsBelow}
 use Rattle.lift_cert.specs.declared.bound.Bound.{Bound}
 use Rattle.region_tree.specs.Nodes.{nodes}
 use Rattle.region_tree.specs.Nodes.Node.{split as split-node, accept as accept-node, unknown as unknown-node}
@@ -109,7 +109,7 @@ rejected = record {
   first = first_at_1 (at_most 1 2);
   none = λ x h. absurd (let n : number x 0 ≡ pos 2 = h.upper.goal 0 refl in let l : (number x 0 *ℤ pos 2) ≤ℤ pos 2 = h.limit in let four : pos 4 ≤ℤ pos 2 = rw n at l in omega (arith, linear, four));
   rejecting = record { holds = lower; limit = omega (arith, linear) };
-  greatest = record { holds = lower; greatest = greatest; stages = record { goal = goal; picked = picked; first = first }; least_rate = λ e h. omega arith; least_height = λ j h g. h };
+  greatest = record { holds = lower; greatest = greatest; stages = record { goal = goal; chosen = chosen; first = first }; least_rate = λ e h. omega arith; least_height = λ j h g. h };
 }
   where
     greatest : (q : RejectData) → IsLower goal_case [] q → (s : ℕ) → number q.numbers s ≤ℤ number (pos 2 ∷ []) s
@@ -120,9 +120,9 @@ rejected = record {
     goal zero e = refl
     goal (suc s) e = absurd (true≢false (sym e))
 
-    picked : (s : ℕ) → is_goal goal_model s ≡ false → mark (0 ∷ []) s < unmarked → IsPicked goal_case [] (IsAllowed goal_case [] (number (pos 2 ∷ []))) (mark (unmarked ∷ [])) (mark (0 ∷ [])) s
-    picked zero e h = absurd (true≢false e)
-    picked (suc s) e h = absurd (omega arith)
+    chosen : (s : ℕ) → is_goal goal_model s ≡ false → mark (0 ∷ []) s < unmarked → IsChosen goal_case [] (IsAllowed goal_case [] (number (pos 2 ∷ []))) (mark (unmarked ∷ [])) (mark (0 ∷ [])) s
+    chosen zero e h = absurd (true≢false e)
+    chosen (suc s) e h = absurd (omega arith)
 
     first : (s : ℕ) → is_goal goal_model s ≡ false → (a r : ℕ) → a < length (choices goal_model s) → IsAllowed goal_case [] (number (pos 2 ∷ [])) s a → r < unmarked → LeadsBelow goal_case [] (mark (0 ∷ [])) r s a → mark (0 ∷ []) s ≤ r
     first zero e a r lt = absurd (true≢false e)

@@ -1,4 +1,4 @@
--- Whatever vector is looked at, there are stages of ranks with picks for what it allows: stage after stage is added until one is empty.
+-- Whatever vector is looked at, there are stages of ranks with choices for what it allows: stage after stage is added until one is empty.
 use Rattle.std.proofs.Common.{◌≡◌, ℕ, suc, ◌+◌, ◌<◌, ◌≤◌, ◌⊎◌, inl, inr, ⊎_elim, Bool, true, false, cond, nat_lt, length, ℤ, pos, ◌*ℤ◌, ◌≤ℤ◌, ◌<ℤ◌, refl, sym, ◌∙◌, subst, arith}
 use Rattle.std.proofs.lemmas.Bool.{cases_lt, cases_eq, cond_both, cond-true, cond-false, ltb-true, ltb-false, lt-ltb, le-ltb}
 use Rattle.lift_grid.specs.Rectangle.{Spans}
@@ -6,7 +6,7 @@ use Rattle.lift_model.specs.Model.{is_goal, choices, row_at}
 use Rattle.corner_lift.specs.Corner.{corner_sum, whole}
 use Rattle.corner_lift.specs.Case.{CaseData, IsCase, IsInside}
 use Rattle.corner_lift.specs.Certificate.{unmarked, ranked_below}
-use Rattle.corner_lift.specs.Stages.{IsAllowed, LeadsBelow, IsPicked, AreStages}
+use Rattle.corner_lift.specs.Stages.{IsAllowed, LeadsBelow, IsChosen, AreStages}
 use Rattle.robust_rank.specs.Attracting.{IsStaged, IsNextStage, Pass, StartIsStaged, NextIsStaged, EmptyStageEnds, StagesOfTest}
 use Rattle.region_tree.proofs.Searches.{at_most_or_not_z, less_or_not_z, true_or_not, both_or_not, all_or_one, all_or_not, IsFirst, first_below, descend, sum_to, sum-lt, sum-most}
 use Rattle.region_tree.proofs.Rows.{corners, goal_past}
@@ -85,8 +85,8 @@ pub record AreStaged (k : CaseData) (spans : Spans) (allowed : ℕ → ℕ → T
   pub small : (s : ℕ) → rank s ≤ unmarked
   pub past : (s : ℕ) → length k.model.states ≤ s → rank s ≡ unmarked
   pub height : (s : ℕ) → rank s < unmarked → rank s ≤ suc (length k.model.states)
-  pub goal_pick : (s : ℕ) → is_goal k.model s ≡ true → pick s ≡ unmarked
-  pub free_pick : (s : ℕ) → unmarked ≤ rank s → pick s ≡ unmarked
+  pub goal_choice : (s : ℕ) → is_goal k.model s ≡ true → pick s ≡ unmarked
+  pub free_choice : (s : ℕ) → unmarked ≤ rank s → pick s ≡ unmarked
 
 -- the stages up to r are complete, and each of them has a state
 record IsStage (k : CaseData) (spans : Spans) (test : ℕ → ℕ → Bool) (r : ℕ) (rank : ℕ → ℕ) : Type 0 where
@@ -146,9 +146,9 @@ module _ (begin : StartIsStaged) (grow : NextIsStaged) (end : EmptyStageEnds) (k
     abbrev pick : ℕ → ℕ
     pick s = cond (is_goal k.model s) unmarked (cond (nat_lt (new s) unmarked) (chosen (Leading k spans test new (new s) s) (length (choices k.model s)) (found k spans test new (new s) s)) unmarked)
 
-    picked : (s : ℕ) → is_goal k.model s ≡ false → new s < unmarked → (o : Search (Leading k spans test new (new s) s) (length (choices k.model s))) → pick s ≡ chosen (Leading k spans test new (new s) s) (length (choices k.model s)) o → IsPicked k spans (Pass test) pick new s
-    picked s f lt (inl none) e = absurd (let there = next_staged.reached s f lt in none there.0 there.1.0 there.1.1)
-    picked s f lt (inr one) e = record {
+    choice_made : (s : ℕ) → is_goal k.model s ≡ false → new s < unmarked → (o : Search (Leading k spans test new (new s) s) (length (choices k.model s))) → pick s ≡ chosen (Leading k spans test new (new s) s) (length (choices k.model s)) o → IsChosen k spans (Pass test) pick new s
+    choice_made s f lt (inl none) e = absurd (let there = next_staged.reached s f lt in none there.0 there.1.0 there.1.1)
+    choice_made s f lt (inr one) e = record {
       later = next_staged.later s f;
       in_range = subst (λ a. a < length (choices k.model s)) (sym e) one.1.0;
       is_allowed = subst (λ a. Pass test s a) (sym e) one.1.1.holds.0;
@@ -163,12 +163,12 @@ module _ (begin : StartIsStaged) (grow : NextIsStaged) (end : EmptyStageEnds) (k
 
     ended : ((s : ℕ) → s < n → new s ≡ suc r → ⊥) → AreStaged k spans (Pass test) pick new
     ended none = record {
-      stages = end k spans test pick new (suc r) is inside low next_staged empty (λ s f lt. picked s f lt (found k spans test new (new s) s) (pick-is s f lt));
+      stages = end k spans test pick new (suc r) is inside low next_staged empty (λ s f lt. choice_made s f lt (found k spans test new (new s) s) (pick-is s f lt));
       small = next_small;
       past = next_past;
       height = λ s lt. (let most = next_staged.marks s lt in let room = stage.room in omega (arith, most, room));
-      goal_pick = λ s g. cond-true (is_goal k.model s) unmarked (cond (nat_lt (new s) unmarked) (chosen (Leading k spans test new (new s) s) (length (choices k.model s)) (found k spans test new (new s) s)) unmarked) g;
-      free_pick = λ s far. cond_both (is_goal k.model s) unmarked (cond (nat_lt (new s) unmarked) (chosen (Leading k spans test new (new s) s) (length (choices k.model s)) (found k spans test new (new s) s)) unmarked) (λ m. m ≡ unmarked)
+      goal_choice = λ s g. cond-true (is_goal k.model s) unmarked (cond (nat_lt (new s) unmarked) (chosen (Leading k spans test new (new s) s) (length (choices k.model s)) (found k spans test new (new s) s)) unmarked) g;
+      free_choice = λ s far. cond_both (is_goal k.model s) unmarked (cond (nat_lt (new s) unmarked) (chosen (Leading k spans test new (new s) s) (length (choices k.model s)) (found k spans test new (new s) s)) unmarked) (λ m. m ≡ unmarked)
           (λ e. refl)
           (λ e. cond-false (nat_lt (new s) unmarked) (chosen (Leading k spans test new (new s) s) (length (choices k.model s)) (found k spans test new (new s) s)) unmarked (le-ltb (new s) unmarked far));
     }
@@ -244,8 +244,8 @@ stages_exist begin grow end of_test k spans is inside y =
           small = staged.small;
           past = staged.past;
           height = staged.height;
-          goal_pick = staged.goal_pick;
-          free_pick = staged.free_pick;
+          goal_choice = staged.goal_choice;
+          free_choice = staged.free_choice;
         },
       ),
     )

@@ -70,7 +70,7 @@ module _ (k : CaseData) (is : IsCase k) (ss : Spans) (inside : IsInside k.root s
     no_later pick rank pick' rank' h g (suc n) s lt small =
         either_way (is_goal k.model s)
         (λ f. omega (arith, g.goal s f))
-        (λ f. let p = h.picked s f small in
+        (λ f. let p = h.chosen s f small in
         g.first s f (pick s) (rank s) p.in_range p.is_allowed small
         (leads-more rank rank' (rank s) (rank s) s (pick s)
         (λ t l. let before = no_later pick rank pick' rank' h g n t (omega arith) (omega arith) in omega (arith, before, l)) p.in_range p.leads))
@@ -89,10 +89,10 @@ module _ (k : CaseData) (is : IsCase k) (ss : Spans) (inside : IsInside k.root s
         absurd (omega (arith, b, l, l')))
         (λ f. omega (arith, l, ltb-false (rank' s) unmarked f, small, small')))
 
-    picks_same : (pick rank pick' rank' : ℕ → ℕ) → AreStages k ss allowed pick rank → AreStages k ss allowed pick' rank' → ((t : ℕ) → rank t ≡ rank' t) → (s : ℕ) → is_goal k.model s ≡ false → rank s < unmarked → pick s ≡ pick' s
-    picks_same pick rank pick' rank' h g same s f small =
-        let p = h.picked s f small in
-        let q = g.picked s f (omega (arith, same s, small)) in
+    choices_same : (pick rank pick' rank' : ℕ → ℕ) → AreStages k ss allowed pick rank → AreStages k ss allowed pick' rank' → ((t : ℕ) → rank t ≡ rank' t) → (s : ℕ) → is_goal k.model s ≡ false → rank s < unmarked → pick s ≡ pick' s
+    choices_same pick rank pick' rank' h g same s f small =
+        let p = h.chosen s f small in
+        let q = g.chosen s f (omega (arith, same s, small)) in
         trichotomy (pick s) (pick' s)
         (λ lt. absurd (q.least (pick s) lt p.is_allowed (leads-more rank rank' (rank s) (rank' s) s (pick s) (λ t l. omega (arith, same t, same s, l)) p.in_range p.leads)))
         (λ e. e)
@@ -108,17 +108,17 @@ module _ (k : CaseData) (is : IsCase k) (ss : Spans) (inside : IsInside k.root s
     pub ranks_one : r.ranks ≡ q.ranks
     ranks_one = ext_get_or unmarked r.ranks q.ranks (h.holds.sizes.1 ∙ sym g.holds.sizes.1) (λ i lt. rank_same i)
 
-    pick_same : (s : ℕ) → mark r.picks s ≡ mark q.picks s
-    pick_same s =
+    choice_same : (s : ℕ) → mark r.picks s ≡ mark q.picks s
+    choice_same s =
         either_way (is_goal k.model s)
         (λ f. (h.holds.goal s f).2 ∙ sym (g.holds.goal s f).2)
         (λ f. either_way (nat_lt (mark r.ranks s) unmarked)
-        (λ l. picks_same (IsAllowed k ss (number r.numbers)) (mark r.picks) (mark r.ranks) (mark q.picks) (mark q.ranks) h.stages stages rank_same s f (ltb-true (mark r.ranks s) unmarked l))
+        (λ l. choices_same (IsAllowed k ss (number r.numbers)) (mark r.picks) (mark r.ranks) (mark q.picks) (mark q.ranks) h.stages stages rank_same s f (ltb-true (mark r.ranks s) unmarked l))
         (λ l. let le : unmarked ≤ mark r.ranks s = ltb-false (mark r.ranks s) unmarked l in
         (h.holds.unranked s f le).1 ∙ sym (g.holds.unranked s f (subst (λ n. unmarked ≤ n) (rank_same s) le)).1))
 
-    pub picks_one : r.picks ≡ q.picks
-    picks_one = ext_get_or unmarked r.picks q.picks (h.holds.sizes.0 ∙ sym g.holds.sizes.0) (λ i lt. pick_same i)
+    pub choices_one : r.picks ≡ q.picks
+    choices_one = ext_get_or unmarked r.picks q.picks (h.holds.sizes.0 ∙ sym g.holds.sizes.0) (λ i lt. choice_same i)
 
   -- a rate speaks of picks and ranks alone
   abbrev RateFor : List ℕ → List ℕ → ℕ → ℕ → Type 0
@@ -142,7 +142,7 @@ module _ (k : CaseData) (is : IsCase k) (ss : Spans) (inside : IsInside k.root s
   pub lower_is_one : (r q : RejectData) → IsGreatestLower k ss r → IsGreatestLower k ss q → r ≡ q
   lower_is_one r q h g =
       let numbers : r.numbers ≡ q.numbers = numbers_same r.numbers q.numbers (h.holds.numbers.size ∙ sym g.holds.numbers.size) (g.greatest r h.holds) (h.greatest q g.holds) in
-      let picks = picks_one r q h g numbers in
+      let picks = choices_one r q h g numbers in
       let ranks = ranks_one r q h g numbers in
       let e : r.e ≡ q.e = omega (arith, rate_below r q h g picks ranks, rate_below q r g h (sym picks) (sym ranks)) in
       let height : r.k ≡ q.k = omega (arith, height_below r q h g picks ranks, height_below q r g h (sym picks) (sym ranks)) in

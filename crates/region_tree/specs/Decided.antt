@@ -32,7 +32,7 @@ pub record CanAsk (k : CaseData) (l : LinksData) (spans : Spans) (weights : List
 abbrev pub lane : {T : Type 0} → PoolData T → List T
 lane p = slice_index_or p.lanes 0 []
 
--- the rejecting certificate with these numbers, picks and ranks
+-- the rejecting certificate with these numbers, choices and ranks
 abbrev pub reject_of : List ℤ → List ℕ → List ℕ → ℕ → ℕ → RejectData
 reject_of numbers picks ranks e k = record { numbers = numbers; picks = picks; ranks = ranks; e = e; k = k }
 
@@ -46,7 +46,7 @@ pub record IsGreatestBeyond (k : CaseData) (spans : Spans) (bound : Bound) (r : 
   pub greatest : IsGreatestLower k spans r
   pub height : r.k ≤ most_states
 
--- The verdict is right of the rectangle, for the precisions from v to the case's, and its certificate has these numbers, picks and ranks. The k of a rejecting one is at most the number of states that a model can have.
+-- The verdict is right of the rectangle, for the precisions from v to the case's, and its certificate has these numbers, choices and ranks. The k of a rejecting one is at most the number of states that a model can have.
 abbrev pub IsDecidedBy : CaseData → ℕ → Spans → Bound → List ℤ → List ℕ → List ℕ → Verdict → Type 0
 IsDecidedBy k v spans bound numbers picks ranks (Accept u) = IsAccepted k v spans bound u numbers
 IsDecidedBy k v spans bound numbers picks ranks (Reject u e height) = IsRejected k v spans bound u (reject_of numbers picks ranks e height) × (height ≤ most_states)

@@ -27,7 +27,7 @@ RightTreesExist = (k : CaseData) (v : ℕ) (bound : Bound) → IsCase k → 1 �
 abbrev pub LeastUppersExist : Type 0
 LeastUppersExist = (k : CaseData) (spans : Spans) → IsCase k → IsInside k.root spans → (x : List ℤ) × IsLeastUpper k spans x
 
--- a rectangle inside the root has a greatest lower vector, with ranks, picks, e and k
+-- a rectangle inside the root has a greatest lower vector, with ranks, choices, e and k
 abbrev pub GreatestLowersExist : Type 0
 GreatestLowersExist = (k : CaseData) (spans : Spans) → IsCase k → IsInside k.root spans → (r : RejectData) × IsGreatestLower k spans r
 
@@ -43,7 +43,7 @@ RightTreesAreOne = (k : CaseData) (v : ℕ) (bound : Bound) (tree other : Tree) 
 abbrev pub LeastUppersAreOne : Type 0
 LeastUppersAreOne = (k : CaseData) (spans : Spans) (x y : List ℤ) → IsLeastUpper k spans x → IsLeastUpper k spans y → x ≡ y
 
--- a rectangle inside the root has at most one greatest lower vector, with one list of ranks, one of picks, one e and one k
+-- a rectangle inside the root has at most one greatest lower vector, with one list of ranks, one of choices, one e and one k
 abbrev pub GreatestLowersAreOne : Type 0
 GreatestLowersAreOne = (k : CaseData) (spans : Spans) (r q : RejectData) → IsCase k → IsInside k.root spans → IsGreatestLower k spans r → IsGreatestLower k spans q → r ≡ q
 

@@ -89,7 +89,7 @@ Notes sides (Reject u e k) old new = NotesRejected sides old new
 Notes sides Unknown old new = new ≡ old
 
 -- what rectangles that are noted tell of another one: it isn't to be accepted exactly where it shares a valuation with one that was rejected, and not to be rejected exactly where with one that was accepted
-pub record IsForetold (d : DecidedData) (spans : Spans) (o : Outlook) : Type 0 where
+pub record IsInferred (d : DecidedData) (spans : Spans) (o : Outlook) : Type 0 where
   pub accepts : IsFalse o.may_accept ↔ MeetsOne spans d.rejected
   pub rejects : IsFalse o.may_reject ↔ MeetsOne spans d.accepted
 

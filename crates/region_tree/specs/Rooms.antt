@@ -28,7 +28,7 @@ pub record RoomData : Type 0 where
 abbrev pub collapse_of : Option LinkedCollapse → Option CollapseData
 collapse_of found = option_map (λ c. c.collapse) found
 
--- the lanes in which vectors of a model are found: one for the numbers of the states, one for which rows are allowed, one each for the ranks and the picks of the states, and one of work space
+-- the lanes in which vectors of a model are found: one for the numbers of the states, one for which rows are allowed, one each for the ranks and the choices of the states, and one of work space
 pub record HasPools (m : ModelData) (p : Pools) : Type 0 where
   pub values : HasLane p.values (length m.states)
   pub allowed : HasLane p.allowed (row_count m)

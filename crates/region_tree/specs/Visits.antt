@@ -20,7 +20,7 @@ pub record AreShown (states : ℕ) (x : List ℤ) : Type 0 where
   pub size : length x ≡ states
   pub range : All (λ n. (pos 0 ≤ℤ n) × (n ≤ℤ pos (2 ^ most_precision))) x
 
--- a rejecting certificate that can be shown: a number, a pick and a rank for each state, and e and k within their limits
+-- a rejecting certificate that can be shown: a number, a chosen row and a rank for each state, and e and k within their limits
 pub record IsShown (states : ℕ) (r : RejectData) : Type 0 where
   pub numbers : AreShown states r.numbers
   pub picks : length r.picks ≡ states

@@ -2,7 +2,7 @@
 
 ghost use Rattle.std.specs.Prelude.{◌≡◌, ◌≤◌, length, IfOk};
 ghost use Rattle.lift_grid.specs.Rectangle.{spans_of};
-ghost use Rattle.region_tree.specs.Recent.{HasAllPlaces, IsForetold, KeepsPlaces, Notes, NotesAccepted, NotesRejected, forgotten, most_ends};
+ghost use Rattle.region_tree.specs.Recent.{HasAllPlaces, IsInferred, KeepsPlaces, Notes, NotesAccepted, NotesRejected, forgotten, most_ends};
 
 use crate::recent::Recent;
 use crate::verdict::Verdict;
@@ -73,7 +73,7 @@ impl Decided {
     /// be expected.
     pub fn outlook(&self, sides: &[i64]) -> Outlook
         requires { HasAllPlaces (length sides.now) self.now }
-        ensures { IsForetold self.now (spans_of sides.now) result }
+        ensures { IsInferred self.now (spans_of sides.now) result }
     {
         Outlook {
             may_accept: !self.rejected.meet(sides),

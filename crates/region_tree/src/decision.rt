@@ -117,7 +117,7 @@ impl Question<'_> {
         self.finder().least_upper_within(limit, collapse, pools)
     }
 
-    /// Whether a rejecting certificate exists, if one may. Then the greatest lower vector, its ranks and its picks
+    /// Whether a rejecting certificate exists, if one may. Then the greatest lower vector, its ranks and its choices
     /// are in the lanes, and this is its rate.
     fn find_rejecting(
         &self,
@@ -253,7 +253,7 @@ impl Task<'_> {
 /// room was made for the case, and further lanes of sides may have been taken since.
 ///
 /// The room's weights are then the table of that rectangle. With `Accept` its values are the least upper
-/// vector at the verdict's precision, and with `Reject` its values, picks and ranks are those of the greatest lower
+/// vector at the verdict's precision, and with `Reject` its values, choices and ranks are those of the greatest lower
 /// vector there. Takes no memory. Walks decide by more than the room: no program calls this.
 pub fn decide(case: &Case, links: &Links, bound: Bound, from: u32, room: &mut Room) -> Verdict
     requires can { CanDecide case.now links.now room.old }

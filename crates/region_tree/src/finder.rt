@@ -75,7 +75,7 @@ impl Finder<'_> {
         )
     }
 
-    /// The greatest lower vector in the lanes, with its ranks and picks, if its number of the initial state is
+    /// The greatest lower vector in the lanes, with its ranks and choices, if its number of the initial state is
     /// above the limit. It is lowered from the vector of ones.
     fn lower_from_ones(&self, limit: i64, pools: &mut Pools) -> Option<Rate>
         ghost spans: { Spans }
@@ -126,7 +126,7 @@ impl Finder<'_> {
         )
     }
 
-    /// The greatest lower vector in the lanes, with its ranks and picks, if its number of the initial state is
+    /// The greatest lower vector in the lanes, with its ranks and choices, if its number of the initial state is
     /// above the limit. Where there is a collapsed model, a vector at or above it is found on that.
     pub fn greatest_lower_above(
         &self,

@@ -22,7 +22,7 @@ use lower_cert::{ranks_fit, vectors_are_lowered};
 use robust_rank::ranks_go_by_stages;
 
 /// What a decided leaf holds and where a rectangle is halved is one: a rectangle has at most one least
-/// upper vector, at most one greatest lower vector with its ranks, picks, e and k, and at most one axis
+/// upper vector, at most one greatest lower vector with its ranks, choices, e and k, and at most one axis
 /// of the split rule.
 pub fn certificates_are_one()
     ensures least { LeastUppersAreOne }
@@ -34,7 +34,7 @@ pub fn certificates_are_one()
 }
 
 /// What a decided leaf holds, and where a rectangle is halved, is always there: a rectangle inside the root
-/// has a least upper vector and a greatest lower one, with its ranks, picks, e and k, and while a halving
+/// has a least upper vector and a greatest lower one, with its ranks, choices, e and k, and while a halving
 /// is left the split rule chooses an axis.
 pub fn certificates_exist()
     ensures least { LeastUppersExist }

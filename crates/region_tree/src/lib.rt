@@ -1,5 +1,5 @@
-//! The tree of a region: which rectangles are decided and which are halved, and the room for a walk
-//! over it.
+//! The tree of a region (region refinement by parameter lifting, a branch and bound): which rectangles are decided and
+//! which are halved, and the room for a walk over it.
 #![tactic(auto)]
 
 mod aim;

@@ -18,7 +18,7 @@ pub struct Pools {
     pub allowed: Pool<u32>,
     /// The ranks of the states.
     pub ranks: Pool<u32>,
-    /// The picks of the states.
+    /// The choices of the states.
     pub picks: Pool<u32>,
     /// Work space.
     pub work: Pool<u32>,

@@ -127,7 +127,7 @@ impl Room {
         self.lanes.pools.values.lane(0)
     }
 
-    /// The picks of the states.
+    /// The choices of the states.
     pub fn picks(&self) -> &[u32]
         requires { 0 < length self.now.lanes.pools.picks.lanes }
         ensures { result.now ≡ slice_index_or self.now.lanes.pools.picks.lanes 0 [] }

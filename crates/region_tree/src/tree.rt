@@ -36,7 +36,7 @@ pub enum Branch {
         u: u32,
         x: Values,
     },
-    /// A rejecting leaf, with its precision, its rate, and the number, the pick and the rank of each state,
+    /// A rejecting leaf, with its precision, its rate, and the number, the chosen row and the rank of each state,
     /// `u32::MAX` standing for none.
     Reject {
         u: u32,

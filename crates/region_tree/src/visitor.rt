@@ -57,8 +57,8 @@ pub trait Visitor {
         ensures precision { precision self.new ≡ precision self.old }
         ensures same { reference self.new ≡ reference self.old };
 
-    /// A rejecting leaf, with its precision, and the number, the pick and the rank of each state; a state without
-    /// pick or rank has `u32::MAX` there.
+    /// A rejecting leaf, with its precision, and the number, the chosen row and the rank of each state; a state without
+    /// chosen row or rank has `u32::MAX` there.
     fn reject(&mut self, u: u32, e: u32, k: u32, y: &[i64], picks: &[u32], ranks: &[u32]) -> Seen
         requires u { Between 1 (precision self.old) u }
         requires r { IsShown (states self.old) (record {

@@ -12,7 +12,7 @@ use Rattle.corner_lift.specs.Certificate.{unmarked, mark}
 use Rattle.corner_lift.specs.Stages.{LeadsBelow, AreStages}
 use Rattle.corner_lift.specs.Laws.{SumsRise}
 use Rattle.robust_rank.specs.Attracting.{Pass, IsNextStage}
-use Rattle.robust_rank.specs.Staging.{allows, is_rank, IsQueuedIn, StageData, IsAdded, IsGathering, IsLooked, IsComplete, IsStarting, IsPickOf}
+use Rattle.robust_rank.specs.Staging.{allows, is_rank, IsQueuedIn, StageData, IsAdded, IsGathering, IsLooked, IsComplete, IsStarting, IsChoiceOf}
 use Rattle.robust_rank.specs.InOrder.{AreRanks}
 use Rattle.robust_rank.proofs.Means.{in_or_past, row_there}
 use Rattle.robust_rank.proofs.Stages.{start_is_staged, next_is_staged, none_below_0, none_sooner}
@@ -156,12 +156,12 @@ module _ (k : CaseData) (spans : Spans) (allowed ranks : List ℕ) (size : lengt
   ranked_in : (s : ℕ) → mark ranks s < unmarked → s < length k.model.states
   ranked_in s lt = ⊎_elim (λ (l : s < length k.model.states). l) (λ (past : length k.model.states ≤ s). absurd (omega (arith, lt, get_or_past ranks s unmarked (omega (arith, past, size))))) (in_or_past s (length k.model.states))
 
-  -- with the least picks, these are the stages
-  pub stages : (picks : List ℕ) → IsCase k → ((s : ℕ) → s < length k.model.states → IsPickOf k spans allowed ranks s (mark picks s)) → AreStages k spans (Pass (allows k.model allowed)) (mark picks) (mark ranks)
+  -- with the least choices, these are the stages
+  pub stages : (picks : List ℕ) → IsCase k → ((s : ℕ) → s < length k.model.states → IsChoiceOf k spans allowed ranks s (mark picks s)) → AreStages k spans (Pass (allows k.model allowed)) (mark picks) (mark ranks)
   stages picks is all = record {
     goal = λ s goal. (ranked s (goal_in k s is goal)).0 goal;
-    picked = λ s isnt lt.
-        let pick = (all s (ranked_in s lt)).picked isnt lt in
+    chosen = λ s isnt lt.
+        let pick = (all s (ranked_in s lt)).chosen isnt lt in
         record {
           later = ⊎_elim
               (λ (zero : mark ranks s < 1). let none : mark ranks s ≡ 0 = omega (arith, zero) in let leads = pick.holds.1 in absurd (none_below_0 k spans (mark ranks) s (mark picks s) (subst (λ n. LeadsBelow k spans (mark ranks) n s (mark picks s)) none leads)))

@@ -1,4 +1,4 @@
--- Rates: how often a weight is doubled to be enough, at all corners of a row and for all picks.
+-- Rates: how often a weight is doubled to be enough, at all corners of a row and for all choices.
 use Rattle.std.proofs.Common.{◌≡◌, ◌+◌, ◌-◌, ◌*◌, ◌/◌, ◌^◌, ◌<◌, ◌≤◌, ℕ, List, ℤ, pos, ◌-ℤ◌, ◌*ℤ◌, ◌≤ℤ◌, ◌<ℤ◌, unsigned_abs, ap, subst, sym, arith, ⊎_elim}
 use Rattle.std.proofs.lemmas.Int.{ints}
 use Rattle.std.proofs.lemmas.Nat.{le-div, pow_pos, pow-add}
@@ -69,7 +69,7 @@ module _ (k : CaseData) (spans : Spans) (is : IsCase k) (ranks : List ℕ) where
   pub next_state : (picks : List ℕ) (s first e next : ℕ) → IsFirstFrom (IsStateRateBefore k spans ranks picks s) first e → IsFirstFrom (IsStateRate k spans ranks picks s) e next → IsFirstFrom (IsStateRateBefore k spans ranks picks (s + 1)) first next
   next_state picks s first e next =
       joined (IsStateRateBefore k spans ranks picks s) (IsStateRate k spans ranks picks s) (IsStateRateBefore k spans ranks picks (s + 1)) first e next
-      (λ m n le p t lt picked c small. corner_more t (mark picks t) c m n le (p t lt picked c small))
+      (λ m n le p t lt chosen c small. corner_more t (mark picks t) c m n le (p t lt chosen c small))
       (λ m p q t lt. ⊎_elim (λ (l : t < s). p t l) (λ (past : s ≤ t). let same : t ≡ s = omega (arith, past, lt) in rw same q) (in_or_past t s))
       (λ m r. (λ t lt. r t (omega (arith, lt)), r s (omega arith)))
 

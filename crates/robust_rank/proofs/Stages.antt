@@ -154,15 +154,15 @@ none_sooner rise k spans test rank r is within staged empty s g a q choice is_al
 pub empty_stage_ends : SumsRise → EmptyStageEnds
 empty_stage_ends rise k spans test pick rank r is within small staged empty picks = record {
   goal = staged.goal;
-  picked = picks;
+  chosen = picks;
   first = none_sooner rise k spans test rank r is within staged empty;
 }
 
 pub stages_of_test : StagesOfTest
 stages_of_test k spans test y pick rank same stages = record {
   goal = stages.goal;
-  picked =
-      λ s g lt. let p = stages.picked s g lt in
+  chosen =
+      λ s g lt. let p = stages.chosen s g lt in
       record {
         later = p.later;
         in_range = p.in_range;

@@ -5,7 +5,7 @@ use Rattle.lift_model.specs.Model.{is_goal, choices, row_at}
 use Rattle.corner_lift.specs.Corner.{no_entry}
 use Rattle.corner_lift.specs.Case.{CaseData, IsCase, IsInside}
 use Rattle.corner_lift.specs.Certificate.{unmarked}
-use Rattle.corner_lift.specs.Stages.{IsAllowed, LeadsBelow, IsPicked, AreStages}
+use Rattle.corner_lift.specs.Stages.{IsAllowed, LeadsBelow, IsChosen, AreStages}
 
 -- the stages up to r are complete
 pub record IsStaged (k : CaseData) (spans : Spans) (allowed : ℕ → ℕ → Type 0) (rank : ℕ → ℕ) (r : ℕ) : Type 0 where
@@ -38,11 +38,11 @@ abbrev pub NextIsStaged : Type 0
 NextIsStaged = (k : CaseData) (spans : Spans) (test : ℕ → ℕ → Bool) (rank new : ℕ → ℕ) (r : ℕ) → suc r < unmarked
     → IsStaged k spans (Pass test) rank r → IsNextStage k spans (Pass test) rank new r → IsStaged k spans (Pass test) new (suc r)
 
--- after an empty stage, with the least picks, these are the stages
+-- after an empty stage, with the least choices, these are the stages
 abbrev pub EmptyStageEnds : Type 0
 EmptyStageEnds = (k : CaseData) (spans : Spans) (test : ℕ → ℕ → Bool) (pick rank : ℕ → ℕ) (r : ℕ) → IsCase k → IsInside k.root spans → r < unmarked
     → IsStaged k spans (Pass test) rank r → ((s : ℕ) → rank s ≡ r → ⊥)
-    → ((s : ℕ) → is_goal k.model s ≡ false → rank s < unmarked → IsPicked k spans (Pass test) pick rank s)
+    → ((s : ℕ) → is_goal k.model s ≡ false → rank s < unmarked → IsChosen k spans (Pass test) pick rank s)
     → AreStages k spans (Pass test) pick rank
 
 -- stages of the choices that a test passes are those of the allowed choices, where it passes just these

@@ -1,4 +1,4 @@
--- Ranks and picks as they are found: by a queue of states in the order of their ranks, whose last part holds the last stage.
+-- Ranks and choices as they are found: by a queue of states in the order of their ranks, whose last part holds the last stage.
 use Rattle.std.specs.Prelude.{◌≡◌, ℕ, suc, ◌<◌, ◌≤◌, ◌⊎◌, Bool, true, false, List, ℤ, length, count_by, slice_index_or, nat_lt}
 use Rattle.lift_grid.specs.Rectangle.{Spans}
 use Rattle.lift_model.specs.Model.{ModelData, is_goal, choices, row_count}
@@ -46,14 +46,14 @@ HasLeading k spans allowed rank r s = (a : ℕ) × ((a < length (choices k.model
 abbrev pub IsReached : CaseData → Spans → List ℕ → List ℕ → ℕ → Type 0
 IsReached k spans allowed ranks s = is_goal k.model s ≡ false → mark ranks s < unmarked → HasLeading k spans allowed (mark ranks) (mark ranks s) s
 
--- the state's pick: the least that is and does where the state has a rank and is no goal state, and else none
-pub record IsPickOf (k : CaseData) (spans : Spans) (allowed ranks : List ℕ) (s pick : ℕ) : Type 0 where
-  pub picked : is_goal k.model s ≡ false → mark ranks s < unmarked → IsLeastLeading k spans allowed (mark ranks) (mark ranks s) s pick
+-- the state's chosen row: the least that is and does where the state has a rank and is no goal state, and else none
+pub record IsChoiceOf (k : CaseData) (spans : Spans) (allowed ranks : List ℕ) (s pick : ℕ) : Type 0 where
+  pub chosen : is_goal k.model s ≡ false → mark ranks s < unmarked → IsLeastLeading k spans allowed (mark ranks) (mark ranks s) s pick
   pub none : (is_goal k.model s ≡ true) ⊎ (unmarked ≤ mark ranks s) → pick ≡ unmarked
 
--- goal states and those without rank have no pick
-abbrev pub OthersHaveNoPick : CaseData → List ℕ → List ℕ → Type 0
-OthersHaveNoPick k picks ranks = (s : ℕ) → (is_goal k.model s ≡ true) ⊎ (unmarked ≤ mark ranks s) → mark picks s ≡ unmarked
+-- goal states and those without rank have no chosen row
+abbrev pub OthersHaveNoChoice : CaseData → List ℕ → List ℕ → Type 0
+OthersHaveNoChoice k picks ranks = (s : ℕ) → (is_goal k.model s ≡ true) ⊎ (unmarked ≤ mark ranks s) → mark picks s ≡ unmarked
 
 -- ---- while stages are found
 

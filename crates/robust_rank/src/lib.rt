@@ -1,4 +1,5 @@
-//! Ranks by stages, and the rate of picks.
+//! Ranks by stages (a ranking function, by backward reachability, with a memoryless strategy that lowers it at every
+//! corner), and the rate of choices (the least probability with which it does).
 #![tactic(auto)]
 
 mod in_order;

@@ -8,7 +8,7 @@ ghost use Rattle.corner_lift.specs.Certificate.{mark, unmarked};
 ghost use Rattle.corner_lift.specs.Stages.{LeadsBelow, AreStages};
 ghost use Rattle.corner_lift.specs.Table.{IsTable};
 ghost use Rattle.robust_rank.specs.Attracting.{Pass};
-ghost use Rattle.robust_rank.specs.Staging.{allows, CanRank, CanRankBy, IsLeading, IsLeastLeading, HasLeading, HasNoLeading, OthersHaveNoPick, is_rank, IsReached, IsPickOf, IsStarting, IsComplete, StageData, IsGathering, AreKept, IsLooked};
+ghost use Rattle.robust_rank.specs.Staging.{allows, CanRank, CanRankBy, IsLeading, IsLeastLeading, HasLeading, HasNoLeading, OthersHaveNoChoice, is_rank, IsReached, IsChoiceOf, IsStarting, IsComplete, StageData, IsGathering, AreKept, IsLooked};
 ghost use Rattle.robust_rank.specs.InOrder.{AreRanks};
 
 use crate::marks::{NONE, are_below, mark_of};
@@ -393,16 +393,16 @@ impl Choices<'_, '_> {
         last
     }
 
-    /// The pick of a state: the least allowed choice that leads below its rank. None where it has no rank,
+    /// The chosen row of a state: the least allowed choice that leads below its rank. None where it has no rank,
     /// or is a goal state.
     #[inline(always)]
-    fn pick_of(&self, s: u32, ranks: &[u32]) -> u32
+    fn choice_of(&self, s: u32, ranks: &[u32]) -> u32
         ghost spans: { Spans }
         requires rows { CanRankBy self.now spans }
         requires state { s < length self.now.rows.case.now.model.states }
         requires ranks { length ranks.now ≡ length self.now.rows.case.now.model.states }
         requires reached { IsReached self.now.rows.case.now spans self.now.allowed.now ranks.now s }
-        ensures picked { IsPickOf self.now.rows.case.now spans self.now.allowed.now ranks.now s result }
+        ensures chosen { IsChoiceOf self.now.rows.case.now spans self.now.allowed.now ranks.now s result }
     {
         let rank = mark_of(ranks, s as usize);
         if self.rows.case.model().is_goal(s) || rank == NONE {
@@ -411,19 +411,19 @@ impl Choices<'_, '_> {
         self.known_choice(s, ranks, rank)
     }
 
-    /// Writes the picks of all states.
+    /// Writes the choices of all states.
     #[inline(never)]
-    fn pick_all(&self, ranks: &[u32], picks: &mut [u32])
+    fn choose_all(&self, ranks: &[u32], picks: &mut [u32])
         ghost spans: { Spans }
         requires rows { CanRankBy self.now spans }
         requires sizes { (length ranks.now ≡ length self.now.rows.case.now.model.states)
             × (length picks.old ≡ length self.now.rows.case.now.model.states) }
         requires reached { (s : ℕ) → IsReached self.now.rows.case.now spans self.now.allowed.now ranks.now s }
         ensures { (s : ℕ) → s < length self.now.rows.case.now.model.states
-            → IsPickOf self.now.rows.case.now spans self.now.allowed.now ranks.now s (mark picks.new s) }
+            → IsChoiceOf self.now.rows.case.now spans self.now.allowed.now ranks.now s (mark picks.new s) }
     {
         for s in 0..self.rows.case.model().states() {
-            picks[s as usize] = self.pick_of(s, ranks);
+            picks[s as usize] = self.choice_of(s, ranks);
         }
     }
 
@@ -465,10 +465,10 @@ impl Choices<'_, '_> {
     }
 }
 
-/// Leaves in `ranks` and `picks` the ranks and picks by stages. Rank 0 have the goal states. A state has
+/// Leaves in `ranks` and `picks` the ranks and choices by stages. Rank 0 have the goal states. A state has
 /// rank r + 1 where it has none up to r, and an allowed choice that at each of its corners has positive
-/// weight into states of rank at most r; the least such choice is its pick. A state without rank, or
-/// without pick as goal states are, has `u32::MAX` there. What a stage adds doesn't see what else that
+/// weight into states of rank at most r; the least such choice is its chosen row. A state without rank, or
+/// without chosen row as goal states are, has `u32::MAX` there. What a stage adds doesn't see what else that
 /// stage adds.
 ///
 /// `weights` is the table of some sides inside the root, and `links` are those of the case's model.
@@ -488,7 +488,7 @@ pub fn attract(
     requires rows { CanRank case.now links.now spans weights.now allowed.now }
     requires sizes { (length ranks.old ≡ length case.now.model.states) × (length picks.old ≡ length case.now.model.states) }
     ensures stages { AreStages case.now spans (Pass (allows case.now.model allowed.now)) (mark picks.new) (mark ranks.new) }
-    ensures others { OthersHaveNoPick case.now picks.new ranks.new }
+    ensures others { OthersHaveNoChoice case.now picks.new ranks.new }
 {
     let _ = case.w();
     let pairs = PairTable::of(case, links, weights);
@@ -501,5 +501,5 @@ pub fn attract(
         allowed,
     };
     choices.rank_all(ranks, picks);
-    choices.pick_all(ranks, picks);
+    choices.choose_all(ranks, picks);
 }

@@ -7,7 +7,7 @@ ghost use Rattle.corner_lift.specs.Case.{IsInside, engine_limit};
 ghost use Rattle.corner_lift.specs.Certificate.{mark, most_rate};
 ghost use Rattle.corner_lift.specs.Stages.{LeadsBelow};
 ghost use Rattle.corner_lift.specs.Table.{IsTable};
-ghost use Rattle.robust_rank.specs.Rate.{ArePicks, IsRowRate, IsStateRate, IsFirstFrom, IsLeastRate};
+ghost use Rattle.robust_rank.specs.Rate.{AreChoices, IsRowRate, IsStateRate, IsFirstFrom, IsLeastRate};
 
 use crate::marks::{NONE, mark_of};
 use crate::ranking::are_both_below;
@@ -153,13 +153,13 @@ impl Rows<'_> {
         }
     }
 
-    /// The least rate of the state's pick, but at least `first`, which it is where the state has no pick.
+    /// The least rate of the state's chosen row, but at least `first`, which it is where the state has no chosen row.
     #[inline(always)]
     fn rate_of_state(&self, ranks: &[u32], picks: &[u32], s: u32, first: u32) -> u32
         ghost spans: { Spans }
         requires links { AreLinks self.now.case.now.model self.now.links.now }
         requires table { IsTable self.now.case.now self.now.links.now spans self.now.weights.now }
-        requires picks { ArePicks self.now.case.now spans ranks.now picks.now }
+        requires picks { AreChoices self.now.case.now spans ranks.now picks.now }
         requires state { s < length self.now.case.now.model.states }
         requires first { first ≤ most_rate }
         ensures least { IsFirstFrom (IsStateRate self.now.case.now spans ranks.now picks.now s) first result }
@@ -177,16 +177,16 @@ impl Rows<'_> {
 }
 
 /// The least e at which, at each corner of the row that a state picks, the weight into states of lower
-/// rank times 2 to the `e` is at least the whole. It is at most 126, and 0 where no state has a pick.
+/// rank times 2 to the `e` is at least the whole. It is at most 126, and 0 where no state has a chosen row.
 ///
 /// `weights` is the table of some sides inside the root, and `links` are those of the case's model.
-/// `ranks` and `picks` have one place for each state. A pick is `u32::MAX`, which is none, or a choice
+/// `ranks` and `picks` have one place for each state. A chosen row is `u32::MAX`, which is none, or a choice
 /// with positive weight into states of lower rank at each of its corners. Takes no memory.
 pub fn rate(case: &Case, links: &Links, weights: &[i128], ranks: &[u32], picks: &[u32]) -> u32
     ghost spans: { Spans }
     requires links { AreLinks case.now.model links.now }
     requires table { IsTable case.now links.now spans weights.now }
-    requires picks { ArePicks case.now spans ranks.now picks.now }
+    requires picks { AreChoices case.now spans ranks.now picks.now }
     ensures least { IsLeastRate case.now spans ranks.now picks.now result }
     ensures most { result ≤ most_rate }
 {

@@ -3,7 +3,7 @@ use Rattle.std.proofs.Common.{◌≡◌, ◌*◌, ◌^◌, ◌<◌, ◌≤◌, �
 use Rattle.std.proofs.lemmas.Int.{by_lt_z}
 use Rattle.lift_poly.proofs.Ring.{linear, mul-comm, mul-le, mul-nonneg, mul-zero}
 use Rattle.corner_lift.specs.Case.{engine_limit, most_precision}
-use Rattle.rounded_iter.specs.Toll.{CanLeave, CanPay, rest_of}
+use Rattle.rounded_iter.specs.Reward.{CanLeave, CanPay, rest_of}
 
 -- a product of numbers from 0 on is as small as one with a greater factor
 pub product_small : (a t b : ℤ) → pos 0 ≤ℤ a → a ≤ℤ t → pos 0 ≤ℤ b → (t *ℤ b) <ℤ pos engine_limit → unsigned_abs a * unsigned_abs b < engine_limit
@@ -15,18 +15,18 @@ product_small (negsuc a) t b least most b_least small = absurd (omega (arith, li
 product_small (pos a) (negsuc t) b least most b_least small = absurd (omega (arith, linear))
 product_small (pos a) (pos t) (negsuc b) least most b_least small = absurd (omega (arith, linear))
 
-module _ (number toll top sum whole own : ℤ) (can : CanLeave number toll top sum whole own) where
+module _ (number reward top sum whole own : ℤ) (can : CanLeave number reward top sum whole own) where
   pub whole_least : pos 0 ≤ℤ whole
   whole_least = omega (arith, linear, can.whole_in)
 
   pub top_least : pos 0 ≤ℤ top
   top_least = omega (arith, linear, can.number_in.0, can.number_in.1)
 
-  pub price_least : pos 0 ≤ℤ (toll *ℤ whole)
-  price_least = mul-nonneg toll whole can.toll_in.0 whole_least
+  pub price_least : pos 0 ≤ℤ (reward *ℤ whole)
+  price_least = mul-nonneg reward whole can.reward_in.0 whole_least
 
-  pub price_most : (toll *ℤ whole) ≤ℤ (top *ℤ whole)
-  price_most = omega (arith, linear, mul-le whole toll top whole_least can.toll_in.1, mul-comm whole toll, mul-comm whole top)
+  pub price_most : (reward *ℤ whole) ≤ℤ (top *ℤ whole)
+  price_most = omega (arith, linear, mul-le whole reward top whole_least can.reward_in.1, mul-comm whole reward, mul-comm whole top)
 
   pub kept_least : pos 0 ≤ℤ (number *ℤ own)
   kept_least = mul-nonneg number own can.number_in.0 can.own_in.0
@@ -45,7 +45,7 @@ module _ (number toll top sum whole own : ℤ) (can : CanLeave number toll top s
   left_most = omega (arith, linear, can.own_in.0)
 
   -- what is due from elsewhere, over what leaves
-  pub can_pay : CanPay number top (rest_of number toll sum whole own) (whole -ℤ own)
+  pub can_pay : CanPay number top (rest_of number reward sum whole own) (whole -ℤ own)
   can_pay = record {
     number_in = can.number_in;
     top_in = can.top_in;

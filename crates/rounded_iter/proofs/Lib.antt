@@ -3,7 +3,7 @@ pub mod Raising
 pub mod Watching
 pub mod Guessing
 pub mod Leaving
-pub mod Tolling
+pub mod Rewarding
 pub mod Pricing
 pub mod Lone
 pub mod Holding

@@ -1,4 +1,4 @@
--- What a number must be to be enough for a row without a self loop, with a toll.
+-- What a number must be to be enough for a row without a self loop, with a reward.
 use Rattle.std.proofs.Common.{◌≡◌, ◌≢◌, ⊎_elim, ℕ, zero, suc, ◌^◌, ◌<◌, ◌≤◌, true, List, [], ◌∷◌, set, ℤ, pos, negsuc, unsigned_abs, SFits, w64, ◌+ℤ◌, ◌-ℤ◌, ◌*ℤ◌, ◌≤ℤ◌, ◌<ℤ◌, refl, ap, sym, subst, ◌∙◌, arith, get_or-set_other, Contains}
 use Rattle.std.proofs.lemmas.Int.{ints, by_lt_z, fits_signed_from_abs}
 use Rattle.lift_poly.proofs.Ring.{linear, mul-comm, mul-add, add-mul, mul-zero, mul-le, mul-le_cancel}
@@ -16,20 +16,20 @@ use Rattle.corner_lift.specs.Quotient.{IsRoundedUp, IsRoundedUpFrom}
 use Rattle.float_guess.specs.declared.rule.Extreme.{Extreme}
 use Rattle.float_guess.specs.declared.rule.Extreme.TheVariants.{Greatest, Least}
 use Rattle.float_guess.specs.declared.rule.Ends.{Ends}
-use Rattle.float_guess.specs.declared.rule.Ends.TheVariants.{Goals, Unranked, Tolled}
-use Rattle.float_guess.specs.Rule.{added, has_tolls}
+use Rattle.float_guess.specs.declared.rule.Ends.TheVariants.{Goals, Unranked, Rewarded}
+use Rattle.float_guess.specs.Rule.{added, has_rewards}
 use Rattle.rounded_iter.specs.Rising.{Across, IsExtreme, IsMoreExtreme, IsEnoughWith, IsSolvedFor}
-use Rattle.rounded_iter.specs.Toll.{IsBefore, IsAfter}
+use Rattle.rounded_iter.specs.Reward.{IsBefore, IsAfter}
 use Rattle.rounded_iter.proofs.Solving.{RowLaws, mul-lt_cancel, less-mul, own_none, value_set, n_range, some_corner, some_at, only_value, across_map, extreme_holds, extreme_from, extreme_least}
 
 -- what is left of a number is no larger
-pub before_small : (w : ℕ) (n toll left : ℤ) → n ≤ℤ pos (2 ^ w) → IsBefore n toll left → unsigned_abs left ≤ 2 ^ w
-before_small w n toll left most is = omega (arith, ints, most, is.least, is.most)
+pub before_small : (w : ℕ) (n reward left : ℤ) → n ≤ℤ pos (2 ^ w) → IsBefore n reward left → unsigned_abs left ≤ 2 ^ w
+before_small w n reward left most is = omega (arith, ints, most, is.least, is.most)
 
 -- a sum up to a number that fits
-pub sum_fits : (n toll top : ℤ) → SFits w64 top → pos 0 ≤ℤ n → pos 0 ≤ℤ toll → (n +ℤ toll) ≤ℤ top → SFits w64 (n +ℤ toll)
-sum_fits n toll (pos top) fits least some le = fits_signed_from_abs w64 (n +ℤ toll) (omega (arith, ints, linear, fits.sfits, least, some, le))
-sum_fits n toll (negsuc top) fits least some le = absurd (omega (arith, linear, least, some, le))
+pub sum_fits : (n reward top : ℤ) → SFits w64 top → pos 0 ≤ℤ n → pos 0 ≤ℤ reward → (n +ℤ reward) ≤ℤ top → SFits w64 (n +ℤ reward)
+sum_fits n reward (pos top) fits least some le = fits_signed_from_abs w64 (n +ℤ reward) (omega (arith, ints, linear, fits.sfits, least, some, le))
+sum_fits n reward (negsuc top) fits least some le = absurd (omega (arith, linear, least, some, le))
 
 -- what is rounded up from a number is at least that
 pub from_least : (left z full q : ℤ) → pos 1 ≤ℤ full → IsRoundedUpFrom left z full q → left ≤ℤ q
@@ -40,11 +40,11 @@ from_least left z full q positive found = ⊎_elim
     omega (arith, linear, less))
     found
 
--- the least number that is enough with what is added, by a rule with tolls
-solved_with : (k : CaseData) (spans : Spans) (s a : ℕ) (x : List ℤ) (e : Extreme) (all : ℕ) (paid v : ℤ) → number x s ≤ℤ v → v ≤ℤ pos (2 ^ k.w) → Across e all (IsEnoughWith paid k spans (set x s v) s a v) → ((y : List ℤ) → AtMost x y → Across e all (λ c. IsEnoughWith paid k spans y s a (number y s) c) → v ≤ℤ number y s) → (ends : Ends) → has_tolls ends ≡ true → paid ≡ added k ends s → IsSolvedFor ends e k spans x s a all v
-solved_with k spans s a x e all paid v grown most enough least Goals tolls same = cc
-solved_with k spans s a x e all paid v grown most enough least (Unranked ranks) tolls same = cc
-solved_with k spans s a x e all paid v grown most enough least (Tolled t) tolls same = record {
+-- the least number that is enough with what is added, by a rule with rewards
+solved_with : (k : CaseData) (spans : Spans) (s a : ℕ) (x : List ℤ) (e : Extreme) (all : ℕ) (paid v : ℤ) → number x s ≤ℤ v → v ≤ℤ pos (2 ^ k.w) → Across e all (IsEnoughWith paid k spans (set x s v) s a v) → ((y : List ℤ) → AtMost x y → Across e all (λ c. IsEnoughWith paid k spans y s a (number y s) c) → v ≤ℤ number y s) → (ends : Ends) → has_rewards ends ≡ true → paid ≡ added k ends s → IsSolvedFor ends e k spans x s a all v
+solved_with k spans s a x e all paid v grown most enough least Goals rewards same = cc
+solved_with k spans s a x e all paid v grown most enough least (Unranked ranks) rewards same = cc
+solved_with k spans s a x e all paid v grown most enough least (Rewarded t) rewards same = record {
   grown = grown;
   most = most;
   enough = subst (λ m. Across e all (IsEnoughWith m k spans (set x s v) s a v)) same enough;
@@ -122,9 +122,9 @@ module _ (laws : RowLaws) (k : CaseData) (spans : Spans) (is : IsCase k) (within
         omega (arith, linear, under y at le, after.within))
         (λ le. omega (arith, linear, le, after.most))
 
-    -- the least number that is enough, by a rule with tolls
-    pub lone_tolled : (ends : Ends) → has_tolls ends ≡ true → paid ≡ added k ends s → IsSolvedFor ends e k spans x s a all v
-    lone_tolled ends tolls same = solved_with k spans s a x e all paid v grown after.most enough least ends tolls same
+    -- the least number that is enough, by a rule with rewards
+    pub lone_rewarded : (ends : Ends) → has_rewards ends ≡ true → paid ≡ added k ends s → IsSolvedFor ends e k spans x s a all v
+    lone_rewarded ends rewards same = solved_with k spans s a x e all paid v grown after.most enough least ends rewards same
 
 -- ---- rows with one entry, which leads to another state
 
@@ -178,6 +178,6 @@ module _ (laws : RowLaws) (k : CaseData) (spans : Spans) (is : IsCase k) (within
       more.2)
       (λ le. omega (arith, linear, le, most))
 
-  -- the target's number with the toll, if it is greater than the state's own
-  pub single_tolled : (ends : Ends) → has_tolls ends ≡ true → paid ≡ added k ends s → IsSolvedFor ends e k spans x s a corners v
-  single_tolled ends tolls same = solved_with k spans s a x e corners paid v more.0 most (enough_at e) least_one ends tolls same
+  -- the target's number with the reward, if it is greater than the state's own
+  pub single_rewarded : (ends : Ends) → has_rewards ends ≡ true → paid ≡ added k ends s → IsSolvedFor ends e k spans x s a corners v
+  single_rewarded ends rewards same = solved_with k spans s a x e corners paid v more.0 most (enough_at e) least_one ends rewards same

@@ -1,4 +1,4 @@
--- The least bound with tolls is the least priced vector, where what was cut off is truly paid for.
+-- The least bound with rewards is the least priced vector, where what was cut off is truly paid for.
 use Rattle.std.proofs.Common.{◌≡◌, ℕ, ◌^◌, ◌<◌, ◌≤◌, min, false, List, [], ◌∷◌, length, ℤ, pos, ◌-ℤ◌, ◌*ℤ◌, ◌≤ℤ◌, ◌<ℤ◌, sym, ap, subst, arith}
 use Rattle.std.proofs.lemmas.Int.{by_lt_z}
 use Rattle.lift_poly.proofs.Ring.{linear, mul-comm, mul-le, mul-le_cancel, mul-zero, one-mul}
@@ -9,14 +9,14 @@ use Rattle.corner_lift.specs.Corner.{AtCorners, corner_sum, whole}
 use Rattle.corner_lift.specs.Case.{CaseData, IsCase, IsInside, IsGreatest, number, row_value, row_whole, corner_count}
 use Rattle.corner_lift.specs.Certificate.{AreNumbers}
 use Rattle.float_guess.specs.declared.rule.Extreme.TheVariants.{Greatest}
-use Rattle.float_guess.specs.declared.toll.Tolls.{Tolls}
-use Rattle.float_guess.specs.Toll.{toll}
+use Rattle.float_guess.specs.declared.reward.Rewards.{Rewards}
+use Rattle.float_guess.specs.Reward.{reward}
 use Rattle.rounded_iter.specs.Rising.{IsEnoughEverywhere, IsEnoughWith, IsLeastBound}
 use Rattle.rounded_iter.specs.Priced.{IsPriced, IsLeastPriced, IsPaidFor, IsBeyond, IsCutOff, ArePaid, SomeUnpaid, paying, price}
 use Rattle.rounded_iter.proofs.Solving.{RowLaws, less-mul, same_whole, at_root, at_spans, whole_positive, some_corner, value_range, only_value}
 use Rattle.rounded_iter.proofs.Raising.{all_rows}
 
--- ---- the toll, cut off
+-- ---- the reward, cut off
 
 cut_most : (w m : ℕ) → pos (min (2 ^ w) m) ≤ℤ pos m
 cut_most w m = let le : min (2 ^ w) m ≤ m = grind arith in omega (arith, linear, le)
@@ -79,12 +79,12 @@ module _ (laws : RowLaws) (k : CaseData) (spans : Spans) (is : IsCase k) (within
 
 -- ---- vectors
 
-module _ (laws : RowLaws) (k : CaseData) (spans : Spans) (is : IsCase k) (within : IsInside k.root spans) (t : Tolls) where
+module _ (laws : RowLaws) (k : CaseData) (spans : Spans) (is : IsCase k) (within : IsInside k.root spans) (t : Rewards) where
   abbrev prices : ℕ → ℤ
   prices s = price k.w t s
 
   abbrev cost : ℕ → ℕ
-  cost s = toll k.w t.costs.now t.cap s
+  cost s = reward k.w t.costs.now t.cap s
 
   -- a priced vector is a bound
   pub bound_of_priced : (y : List ℤ) → IsPriced k spans prices y → IsEnoughEverywhere (paying t) k spans y

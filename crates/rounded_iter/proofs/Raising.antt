@@ -18,11 +18,11 @@ use Rattle.corner_lift.specs.Laws.{NumbersAreInRange}
 use Rattle.float_guess.specs.declared.rule.Extreme.{Extreme}
 use Rattle.float_guess.specs.declared.rule.Extreme.TheVariants.{Greatest, Least}
 use Rattle.float_guess.specs.declared.rule.Ends.{Ends}
-use Rattle.float_guess.specs.declared.rule.Ends.TheVariants.{Goals, Unranked, Tolled}
+use Rattle.float_guess.specs.declared.rule.Ends.TheVariants.{Goals, Unranked, Rewarded}
 use Rattle.float_guess.specs.declared.rule.Rule.{Rule}
-use Rattle.float_guess.specs.Rule.{is_given, given, has_tolls}
+use Rattle.float_guess.specs.Rule.{is_given, given, has_rewards}
 use Rattle.rounded_iter.specs.Value.{IsValue, IsLeastValue, SomeMeanAtMost}
-use Rattle.rounded_iter.specs.Rising.{TableData, Run, IsBelow, IsEnoughEverywhere, IsLeastBound, IsLeastBoundWithin, HasEnough, IsEnoughFor, IsEnoughBy, IsMoreExtreme, IsSolvedFor, IsSolved, IsSolvedBy, Across, room, untolled}
+use Rattle.rounded_iter.specs.Rising.{TableData, Run, IsBelow, IsEnoughEverywhere, IsLeastBound, IsLeastBoundWithin, HasEnough, IsEnoughFor, IsEnoughBy, IsMoreExtreme, IsSolvedFor, IsSolved, IsSolvedBy, Across, room, unrewarded}
 use Rattle.rounded_iter.specs.Watching.{from_zero, first_number, HasGoals, CanRaise, IsRaisedState, IsBelowUppers, IsLeastWithin}
 use Rattle.rounded_iter.proofs.Solving.{RowLaws, across_map, same_or_not, sum_moved, only_same, only_other, own_none, same_whole, at_root, at_spans, enough_same, in_lane, set_numbers, n_least, risen, some_corner, top_enough, one_more, Range}
 
@@ -54,12 +54,12 @@ given_inside k (Unranked ranks) goals s is = by_test (is_goal k.model s) (nat_lt
     by_test true lt goal inside e = goal_inside k goals s goal
     by_test false true goal inside e = ltb-true s (length k.model.states) inside
     by_test false false goal inside e = cc
-given_inside k (Tolled t) goals s is = goal_inside k goals s is
+given_inside k (Rewarded t) goals s is = goal_inside k goals s is
 
 -- what is given is from 0 to 2 ^ w
 pub given_range : (k : CaseData) (ends : Ends) (s : ℕ) → Range k.w (given k ends s)
 given_range k Goals s = (omega (arith, linear), omega (arith, linear))
-given_range k (Tolled t) s = (omega (arith, linear), omega (arith, linear))
+given_range k (Rewarded t) s = (omega (arith, linear), omega (arith, linear))
 given_range k (Unranked ranks) s = by_test (is_goal k.model s)
   where
     by_test : (g : Bool) → Range k.w (if g then pos 0 else pos (2 ^ k.w))
@@ -245,18 +245,18 @@ module _ (laws : RowLaws) (t : TableData) (run : Run) (x : List ℤ) (s : ℕ) (
 pub raised_given : (t : TableData) (run : Run) (x : List ℤ) (s : ℕ) → CanRaise t run x s → is_given t.case.model t.rule.ends s ≡ true → IsRaisedState t run x x s false
 raised_given t run x s can is = record { below = can.below; kept = λ b. refl; less = λ b. cc; other = λ i ne. refl; enough = λ free. absurd (both_ways (is_given t.case.model t.rule.ends s) free is) }
 
--- without tolls
-pub solved_plain : (r : Rule) (k : CaseData) (spans : Spans) (x : List ℤ) (s n : ℕ) (v : ℤ) → has_tolls r.ends ≡ false → IsSolvedBy (untolled r) k spans x s n v → IsSolvedBy r k spans x s n v
+-- without rewards
+pub solved_plain : (r : Rule) (k : CaseData) (spans : Spans) (x : List ℤ) (s n : ℕ) (v : ℤ) → has_rewards r.ends ≡ false → IsSolvedBy (unrewarded r) k spans x s n v → IsSolvedBy r k spans x s n v
 solved_plain r k spans x s n v none h = by_ends r.ends refl none
   where
-    by_ends : (ends : Ends) → r.ends ≡ ends → has_tolls ends ≡ false → IsSolvedBy r k spans x s n v
+    by_ends : (ends : Ends) → r.ends ≡ ends → has_rewards ends ≡ false → IsSolvedBy r k spans x s n v
     by_ends Goals e none = subst (λ ends. IsSolvedBy (record { choice = r.choice; corner = r.corner; ends = ends }) k spans x s n v) (sym e) h
     by_ends (Unranked ranks) e none = subst (λ ends. IsSolvedBy (record { choice = r.choice; corner = r.corner; ends = ends }) k spans x s n v) (sym e) (record { grown = h.grown; most = h.most; enough = h.enough; least = h.least })
-    by_ends (Tolled t) e none = cc
+    by_ends (Rewarded t) e none = cc
 
 -- the only choice of a state is each of those that count
-pub solved_only : RowLaws → (r : Rule) (k : CaseData) (spans : Spans) → IsCase k → IsInside k.root spans → (x : List ℤ) → AreNumbers k x → (s : ℕ) → s < length k.model.states → length (choices k.model s) ≡ 1 → (v : ℤ) → IsSolved r.corner k spans x s 0 (corner_count k s 0) v → IsSolvedBy (untolled r) k spans x s (length (choices k.model s)) v
-solved_only laws r k spans is within x numbers s state one v h = solved_by_only laws (untolled r) k spans is within x numbers s state one v h
+pub solved_only : RowLaws → (r : Rule) (k : CaseData) (spans : Spans) → IsCase k → IsInside k.root spans → (x : List ℤ) → AreNumbers k x → (s : ℕ) → s < length k.model.states → length (choices k.model s) ≡ 1 → (v : ℤ) → IsSolved r.corner k spans x s 0 (corner_count k s 0) v → IsSolvedBy (unrewarded r) k spans x s (length (choices k.model s)) v
+solved_only laws r k spans is within x numbers s state one v h = solved_by_only laws (unrewarded r) k spans is within x numbers s state one v h
 
 -- ---- other states
 

@@ -24,7 +24,7 @@ use Rattle.corner_lift.specs.Laws.{HasRow, ParametersAreTheRoots, NumbersAreInRa
 use Rattle.float_guess.specs.declared.rule.Extreme.{Extreme}
 use Rattle.float_guess.specs.declared.rule.Extreme.TheVariants.{Greatest, Least}
 use Rattle.float_guess.specs.declared.rule.Ends.{Ends}
-use Rattle.float_guess.specs.declared.rule.Ends.TheVariants.{Goals, Unranked, Tolled}
+use Rattle.float_guess.specs.declared.rule.Ends.TheVariants.{Goals, Unranked, Rewarded}
 use Rattle.float_guess.specs.Rule.{added}
 use Rattle.rounded_iter.specs.Rising.{Across, IsExtreme, IsMoreExtreme, IsEnoughAt, IsEnoughWith, IsEnoughBy, SolvesBy, SolvesAt, IsSolvedFor, IsSolved}
 
@@ -184,10 +184,10 @@ extreme_attained Least value n z is = is.attained
 pub enough_same : (k : CaseData) (spans : Spans) (s a : ℕ) (ends : Ends) (x y : List ℤ) (m n : ℤ) (c : ℕ) → row_value k spans s a y c ≡ row_value k spans s a x c → n ≡ m → IsEnoughBy ends k spans x s a m c → IsEnoughBy ends k spans y s a n c
 enough_same k spans s a Goals x y m n c sum same h = omega (arith, linear, h, sum, ap (λ i. i *ℤ row_whole k s a) same)
 enough_same k spans s a (Unranked ranks) x y m n c sum same h = omega (arith, linear, h, sum, ap (λ i. i *ℤ row_whole k s a) same)
-enough_same k spans s a (Tolled t) x y m n c sum same h = with_toll (added k (Tolled t) s) h
+enough_same k spans s a (Rewarded t) x y m n c sum same h = with_reward (added k (Rewarded t) s) h
   where
-    with_toll : (toll : ℤ) → IsEnoughWith toll k spans x s a m c → IsEnoughWith toll k spans y s a n c
-    with_toll toll h = λ below. omega (arith, linear, h (omega (arith, linear, same, below)), sum, ap (λ i. i *ℤ row_whole k s a) same)
+    with_reward : (reward : ℤ) → IsEnoughWith reward k spans x s a m c → IsEnoughWith reward k spans y s a n c
+    with_reward reward h = λ below. omega (arith, linear, h (omega (arith, linear, same, below)), sum, ap (λ i. i *ℤ row_whole k s a) same)
 
 -- the laws of rows that a raise rests on
 pub record RowLaws : Type 0 where
@@ -259,8 +259,8 @@ module _ (laws : RowLaws) (k : CaseData) (spans : Spans) (is : IsCase k) (within
       let product : number y s *ℤ full ≡ number x s *ℤ full +ℤ d *ℤ full = ap (λ n. n *ℤ full) own_is ∙ add-mul (number x s) d full in
       omega (arith, linear, up, ones, ap (λ n. d *ℤ n) (full_sum c lt), product)
 
-  enough_with_shifted : (toll : ℤ) (x y : List ℤ) (d : ℤ) → pos 0 ≤ℤ d → ((t : ℕ) → number y t ≤ℤ (number x t +ℤ d)) → number y s ≡ number x s +ℤ d → (c : ℕ) → c < corner_count k s a → IsEnoughWith toll k spans x s a (number x s) c → IsEnoughWith toll k spans y s a (number y s) c
-  enough_with_shifted toll x y d least le own_is c lt h = λ below.
+  enough_with_shifted : (reward : ℤ) (x y : List ℤ) (d : ℤ) → pos 0 ≤ℤ d → ((t : ℕ) → number y t ≤ℤ (number x t +ℤ d)) → number y s ≡ number x s +ℤ d → (c : ℕ) → c < corner_count k s a → IsEnoughWith reward k spans x s a (number x s) c → IsEnoughWith reward k spans y s a (number y s) c
+  enough_with_shifted reward x y d least le own_is c lt h = λ below.
       let before : number x s <ℤ top = omega (arith, linear, below, own_is, least) in
       omega (arith, linear, h before, sum_shifted x y d le own_is c lt)
 
@@ -268,7 +268,7 @@ module _ (laws : RowLaws) (k : CaseData) (spans : Spans) (is : IsCase k) (within
   pub enough_shifted : (ends : Ends) (x y : List ℤ) (d : ℤ) → pos 0 ≤ℤ d → ((t : ℕ) → number y t ≤ℤ (number x t +ℤ d)) → number y s ≡ number x s +ℤ d → (c : ℕ) → c < corner_count k s a → IsEnoughBy ends k spans x s a (number x s) c → IsEnoughBy ends k spans y s a (number y s) c
   enough_shifted Goals x y d least le own_is c lt h = omega (arith, linear, h, sum_shifted x y d le own_is c lt)
   enough_shifted (Unranked ranks) x y d least le own_is c lt h = omega (arith, linear, h, sum_shifted x y d le own_is c lt)
-  enough_shifted (Tolled t) x y d least le own_is c lt h = enough_with_shifted (added k (Tolled t) s) x y d least le own_is c lt h
+  enough_shifted (Rewarded t) x y d least le own_is c lt h = enough_with_shifted (added k (Rewarded t) s) x y d least le own_is c lt h
 
   module _ (x : List ℤ) (numbers : AreNumbers k x) where
     pub in_lane : s < length x
@@ -389,16 +389,16 @@ module _ (laws : RowLaws) (k : CaseData) (spans : Spans) (is : IsCase k) (within
     pub risen : (ends : Ends) (u v : ℤ) (c : ℕ) → c < corner_count k s a → u ≤ℤ v → IsEnoughBy ends k spans (set x s u) s a u c → IsEnoughBy ends k spans (set x s v) s a v c
     risen Goals u v c lt le h = omega (arith, linear, h, sum_risen u v c lt le)
     risen (Unranked ranks) u v c lt le h = omega (arith, linear, h, sum_risen u v c lt le)
-    risen (Tolled t) u v c lt le h = with_toll (added k (Tolled t) s) h
+    risen (Rewarded t) u v c lt le h = with_reward (added k (Rewarded t) s) h
       where
-        with_toll : (toll : ℤ) → IsEnoughWith toll k spans (set x s u) s a u c → IsEnoughWith toll k spans (set x s v) s a v c
-        with_toll toll h = λ below. omega (arith, linear, h (omega (arith, linear, le, below)), sum_risen u v c lt le)
+        with_reward : (reward : ℤ) → IsEnoughWith reward k spans (set x s u) s a u c → IsEnoughWith reward k spans (set x s v) s a v c
+        with_reward reward h = λ below. omega (arith, linear, h (omega (arith, linear, le, below)), sum_risen u v c lt le)
 
     -- 2 ^ w is enough
     pub top_enough : (ends : Ends) (v : ℤ) (c : ℕ) → v ≡ top → IsEnoughBy ends k spans x s a v c
     top_enough Goals v c same = omega (arith, linear, (value_range c).1, ap (λ m. m *ℤ full) same)
     top_enough (Unranked ranks) v c same = omega (arith, linear, (value_range c).1, ap (λ m. m *ℤ full) same)
-    top_enough (Tolled t) v c same = λ below. absurd (omega (arith, linear, below, same))
+    top_enough (Rewarded t) v c same = λ below. absurd (omega (arith, linear, below, same))
 
     pub solved_more : (ends : Ends) (e : Extreme) (i : ℕ) (u v z : ℤ) → i < corner_count k s a → IsSolvedFor ends e k spans x s a i u → SolvesBy ends k spans x s a i v → IsMoreExtreme e u v z → IsSolvedFor ends e k spans x s a (i + 1) z
     solved_more ends Greatest i u v z lt h g o = record {

@@ -5,14 +5,14 @@ use Rattle.lift_model.specs.Model.{is_goal, choices}
 use Rattle.corner_lift.specs.Case.{CaseData, number, row_value, row_whole, corner_count}
 use Rattle.corner_lift.specs.Certificate.{AreNumbers, AtMost, MeansAtMost}
 use Rattle.float_guess.specs.declared.rule.Extreme.TheVariants.{Greatest}
-use Rattle.float_guess.specs.declared.rule.Ends.TheVariants.{Tolled}
+use Rattle.float_guess.specs.declared.rule.Ends.TheVariants.{Rewarded}
 use Rattle.float_guess.specs.declared.rule.Rule.{Rule}
-use Rattle.float_guess.specs.declared.toll.Tolls.{Tolls}
-use Rattle.float_guess.specs.Toll.{toll}
+use Rattle.float_guess.specs.declared.reward.Rewards.{Rewards}
+use Rattle.float_guess.specs.Reward.{reward}
 
 -- what a visit of a state costs
-abbrev pub price : ℕ → Tolls → ℕ → ℤ
-price w t s = pos (toll w t.costs.now t.cap s)
+abbrev pub price : ℕ → Rewards → ℕ → ℤ
+price w t s = pos (reward w t.costs.now t.cap s)
 
 -- a priced vector: 0 on goal states, and elsewhere at least the price and the weighted mean of the targets' numbers, for each choice and at each corner
 pub record IsPriced (k : CaseData) (spans : Spans) (prices : ℕ → ℤ) (z : List ℤ) : Type 0 where
@@ -26,8 +26,8 @@ pub record IsLeastPriced (k : CaseData) (spans : Spans) (prices : ℕ → ℤ) (
   pub least : (y : List ℤ) → IsPriced k spans prices y → AtMost z y
 
 -- the rule of costs
-abbrev pub paying : Tolls → Rule
-paying t = record { choice = Greatest; corner = Greatest; ends = Tolled t }
+abbrev pub paying : Rewards → Rule
+paying t = record { choice = Greatest; corner = Greatest; ends = Rewarded t }
 
 -- at 2 ^ w, at which numbers are cut off, a choice is truly paid for
 abbrev pub IsPaidFor : CaseData → Spans → (ℕ → ℤ) → List ℤ → ℕ → ℕ → Type 0

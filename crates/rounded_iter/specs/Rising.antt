@@ -9,7 +9,7 @@ use Rattle.corner_lift.specs.Table.{IsTable}
 use Rattle.float_guess.specs.declared.rule.Extreme.{Extreme}
 use Rattle.float_guess.specs.declared.rule.Extreme.TheVariants.{Greatest, Least}
 use Rattle.float_guess.specs.declared.rule.Ends.{Ends}
-use Rattle.float_guess.specs.declared.rule.Ends.TheVariants.{Goals, Unranked, Tolled}
+use Rattle.float_guess.specs.declared.rule.Ends.TheVariants.{Goals, Unranked, Rewarded}
 use Rattle.float_guess.specs.declared.rule.Rule.{Rule}
 use Rattle.float_guess.specs.Rule.{is_given, given, added}
 
@@ -48,19 +48,19 @@ IsMoreExtreme Least a b z = (z ≤ℤ a) × (z ≤ℤ b) × ((z ≡ a) ⊎ (z �
 abbrev pub IsEnoughAt : CaseData → Spans → List ℤ → ℕ → ℕ → ℤ → ℕ → Type 0
 IsEnoughAt k spans x s a n c = row_value k spans s a x c ≤ℤ (n *ℤ row_whole k s a)
 
--- the same with a toll, if the number is below 2 ^ w: numbers are cut off there
+-- the same with a reward, if the number is below 2 ^ w: numbers are cut off there
 abbrev pub IsEnoughWith : ℤ → CaseData → Spans → List ℤ → ℕ → ℕ → ℤ → ℕ → Type 0
-IsEnoughWith toll k spans x s a n c = n <ℤ pos (2 ^ k.w) → (row_value k spans s a x c +ℤ toll *ℤ row_whole k s a) ≤ℤ (n *ℤ row_whole k s a)
+IsEnoughWith reward k spans x s a n c = n <ℤ pos (2 ^ k.w) → (row_value k spans s a x c +ℤ reward *ℤ row_whole k s a) ≤ℤ (n *ℤ row_whole k s a)
 
 -- which of both a rule asks for
 abbrev pub IsEnoughBy : Ends → CaseData → Spans → List ℤ → ℕ → ℕ → ℤ → ℕ → Type 0
 IsEnoughBy Goals k spans x s a n = IsEnoughAt k spans x s a n
 IsEnoughBy (Unranked ranks) k spans x s a n = IsEnoughAt k spans x s a n
-IsEnoughBy (Tolled t) k spans x s a n = IsEnoughWith (added k (Tolled t) s) k spans x s a n
+IsEnoughBy (Rewarded t) k spans x s a n = IsEnoughWith (added k (Rewarded t) s) k spans x s a n
 
--- the rule without tolls
-abbrev pub untolled : Rule → Rule
-untolled r = record { choice = r.choice; corner = r.corner; ends = Goals }
+-- the rule without rewards
+abbrev pub unrewarded : Rule → Rule
+unrewarded r = record { choice = r.choice; corner = r.corner; ends = Goals }
 
 -- the state's number is enough for the choice at the corners that count
 abbrev pub IsEnoughFor : Rule → CaseData → Spans → List ℤ → ℕ → ℕ → Type 0
@@ -153,11 +153,11 @@ pub record IsSolvedBy (r : Rule) (k : CaseData) (spans : Spans) (x : List ℤ) (
   pub enough : Across r.choice n (λ a. Across r.corner (corner_count k s a) (IsEnoughBy r.ends k spans (slice_set x s v) s a v))
   pub least : (y : List ℤ) → AtMost x y → Across r.choice n (λ a. IsEnoughFor r k spans y s a) → v ≤ℤ number y s
 
--- at one corner, without tolls
+-- at one corner, without rewards
 abbrev pub SolvesAt : CaseData → Spans → List ℤ → ℕ → ℕ → ℕ → ℤ → Type 0
 SolvesAt k spans x s a c v = SolvesBy Goals k spans x s a c v
 
--- at the corners of so many that count, without tolls
+-- at the corners of so many that count, without rewards
 abbrev pub IsSolved : Extreme → CaseData → Spans → List ℤ → ℕ → ℕ → ℕ → ℤ → Type 0
 IsSolved e k spans x s a n v = IsSolvedFor Goals e k spans x s a n v
 

@@ -8,7 +8,7 @@ use Rattle.corner_lift.specs.Table.{IsTable}
 use Rattle.corner_lift.specs.Certificate.{AreNumbers, AtMost, IsUpper, IsLeastUpper}
 use Rattle.float_guess.specs.declared.rule.Ends.{Ends}
 use Rattle.float_guess.specs.declared.rule.Rule.{Rule}
-use Rattle.float_guess.specs.Rule.{is_given, given, has_tolls}
+use Rattle.float_guess.specs.Rule.{is_given, given, has_rewards}
 use Rattle.float_guess.specs.Notes.{low_word, noted_word}
 use Rattle.rounded_iter.specs.declared.table.Ended.{Ended}
 use Rattle.rounded_iter.specs.declared.table.Ended.TheVariants.{Settled, Past, Slow}
@@ -35,11 +35,11 @@ pub record CanRaise (t : TableData) (run : Run) (x : List ℤ) (s : ℕ) : Type 
   pub state : s < count t
   pub below : IsBelow t.rule t.case run x
 
--- what it needs to raise one whose number isn't given, or is 2 ^ w, by a rule with tolls or without
-pub record CanRaiseFree (t : TableData) (run : Run) (x : List ℤ) (s : ℕ) (tolled : Bool) : Type 0 where
+-- what it needs to raise one whose number isn't given, or is 2 ^ w, by a rule with rewards or without
+pub record CanRaiseFree (t : TableData) (run : Run) (x : List ℤ) (s : ℕ) (rewarded : Bool) : Type 0 where
   pub can : CanRaise t run x s
   pub free : is_given t.case.model t.rule.ends s ≡ true → given t.case t.rule.ends s ≡ pos (2 ^ t.case.w)
-  pub tolls : has_tolls t.rule.ends ≡ tolled
+  pub rewards : has_rewards t.rule.ends ≡ rewarded
 
 -- the number of s was raised to what is enough, unless it is given
 pub record IsRaisedState (t : TableData) (run : Run) (old new : List ℤ) (s : ℕ) (rose : Bool) : Type 0 where

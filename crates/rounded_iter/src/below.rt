@@ -19,7 +19,7 @@ impl Table<'_, '_> {
         let is_one = match self.rule.ends {
             Ends::Goals => model.is_goal(s),
             Ends::Unranked(_) => self.rule.ends.has(model, s) && !model.is_goal(s),
-            Ends::Tolled(_) => false,
+            Ends::Rewarded(_) => false,
         };
         if is_one { self.top } else { 0 }
     }

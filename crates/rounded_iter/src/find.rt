@@ -8,12 +8,12 @@ ghost use Rattle.rounded_iter.specs.Watching.{CanFind, IsFound, CanConfirm};
 use crate::guess::Raised;
 use crate::table::Table;
 use corner_lift::{corners_bound_weights, rows_at_corners};
-use float_guess::Way;
+use float_guess::Method;
 
 /// How many passes over a component are made before the first guess.
 const FIRST_PATIENCE: u32 = 24;
 
-/// How many where there are tolls and most states lie in one component: a guess of that is one of nearly all.
+/// How many where there are rewards and most states lie in one component: a guess of that is one of nearly all.
 const LARGE_PATIENCE: u32 = 4;
 
 /// As many passes are made at first as there are numbers, where these are no more: no state rises more often.
@@ -58,9 +58,9 @@ impl Table<'_, '_> {
         }
         let mut patience = FIRST_PATIENCE;
         for _ in 0..GUESSES {
-            let way = Way::Sweeps(patience.saturating_mul(SWEEPS_A_PASS));
+            let method = Method::Sweeps(patience.saturating_mul(SWEEPS_A_PASS));
             let raises = patience.saturating_mul(RAISES_A_PASS);
-            if let Some(found) = self.find_from_guess(lane, flags, noted, way, raises) {
+            if let Some(found) = self.find_from_guess(lane, flags, noted, method, raises) {
                 return found;
             }
             patience = patience.saturating_mul(PATIENCE_STEP);
@@ -98,7 +98,7 @@ impl Table<'_, '_> {
     /// How many passes are made before the first guess.
     fn first_patience(&self) -> u32 {
         if self.top > FEW_NUMBERS {
-            if self.has_tolls() && self.has_large_component() {
+            if self.has_rewards() && self.has_large_component() {
                 return LARGE_PATIENCE;
             }
             return FIRST_PATIENCE;

@@ -10,7 +10,7 @@ ghost use Rattle.rounded_iter.specs.Watching.{CanStart, CanClimb, IsFound, CanGu
 
 use crate::table::{Ended, Table};
 use corner_lift::{corners_bound_weights, rows_at_corners};
-use float_guess::{Note, Rounding, Way, guess_part};
+use float_guess::{Method, Note, Rounding, guess_part};
 
 /// How many passes raise a guess by elimination.
 pub(crate) const RAISES: u32 = 16384;
@@ -115,7 +115,7 @@ impl Table<'_, '_> {
     }
 
     /// Makes all numbers of a guess less by the same share, so that the initial state's is a little more than the limit:
-    /// tolls aren't made less, so each number soon rises, and so shows that it lies below each bound.
+    /// rewards aren't made less, so each number soon rises, and so shows that it lies below each bound.
     fn lessen_guess(&self, lane: &mut [i64])
         requires { CanStart self.now lane.old }
         ensures { IsGuess self.now.rule self.now.case lane.new }
@@ -159,14 +159,14 @@ impl Table<'_, '_> {
         true
     }
 
-    /// Raises a vector in so few passes. Where there are tolls, a pass is one over all states: each has something to add to
+    /// Raises a vector in so few passes. Where there are rewards, a pass is one over all states: each has something to add to
     /// its number, whatever its component's others wait for.
     fn try_few(&self, lane: &mut [i64], flags: &mut [u32], few: u32) -> Ended
         ghost run: { Run }
         requires { CanClimb self.now run lane.old flags.old }
         ensures { IsClimbed self.now run lane.new (Some few) result }
     {
-        if self.has_tolls() {
+        if self.has_rewards() {
             self.settle_all(lane, flags, Some(few))
         } else {
             self.climb(lane, flags, Some(few))
@@ -229,7 +229,7 @@ impl Table<'_, '_> {
         noted: &mut [u32],
         low: u32,
         high: u32,
-        way: Way,
+        method: Method,
     ) -> bool
         requires { CanGuess self.now lane.old }
         ensures { IsGuess self.now.rule self.now.case lane.new }
@@ -245,30 +245,36 @@ impl Table<'_, '_> {
             noted,
             low,
             high,
-            way,
+            method,
         )
     }
 
     /// Guesses the least bound, component by component from those below. From the first one on where the way
     /// doesn't do, the guess is 0.
-    fn guess(&self, lane: &mut [i64], flags: &mut [u32], noted: &mut [u32], way: Way) -> Guessed
+    fn guess(
+        &self,
+        lane: &mut [i64],
+        flags: &mut [u32],
+        noted: &mut [u32],
+        method: Method,
+    ) -> Guessed
         requires { CanGuess self.now lane.old }
         ensures { IsGuess self.now.rule self.now.case lane.new }
     {
-        let mut way = way;
+        let mut method = method;
         let mut some = false;
         let mut all = true;
         let mut low = 0;
         for position in 0..self.rows.model().states() {
             let next = position + 1;
             if self.is_end(next) {
-                if !self.guess_component(lane, flags, noted, low, next, way) {
+                if !self.guess_component(lane, flags, noted, low, next, method) {
                     if !some {
                         return Guessed::Nothing;
                     }
-                    way = Way::Nothing;
+                    method = Method::Nothing;
                     all = false;
-                    self.guess_component(lane, flags, noted, low, next, way);
+                    self.guess_component(lane, flags, noted, low, next, method);
                 }
                 some = some || (all && low < position);
                 low = next;
@@ -281,29 +287,29 @@ impl Table<'_, '_> {
         }
     }
 
-    /// The same. Where there are tolls, what it would come to in a first round is enough if the initial state's number is
+    /// The same. Where there are rewards, what it would come to in a first round is enough if the initial state's number is
     /// above the limit then: further rounds find choices and corners that bring more.
     fn guess_enough(
         &self,
         lane: &mut [i64],
         flags: &mut [u32],
         noted: &mut [u32],
-        way: Way,
+        method: Method,
     ) -> Guessed
         ghost spans: { Spans }
         requires { CanConfirm self.now spans lane.old flags.old noted.old }
         ensures { IsGuess self.now.rule self.now.case lane.new }
     {
-        match way {
-            Way::Elimination if self.has_tolls() => {
-                let guessed = self.guess(lane, flags, noted, Way::FirstElimination);
+        match method {
+            Method::Elimination if self.has_rewards() => {
+                let guessed = self.guess(lane, flags, noted, Method::FirstElimination);
                 if matches!(guessed, Guessed::All) && self.is_past(lane) {
                     return guessed;
                 }
             }
             _ => {}
         }
-        self.guess(lane, flags, noted, way)
+        self.guess(lane, flags, noted, method)
     }
 
     /// Raises a guess of all components. The limit is no matter, since states above it may not have been
@@ -342,7 +348,7 @@ impl Table<'_, '_> {
         lane: &mut [i64],
         flags: &mut [u32],
         noted: &mut [u32],
-        way: Way,
+        method: Method,
         passes: u32,
     ) -> Raised
         ghost spans: { Spans }
@@ -352,8 +358,8 @@ impl Table<'_, '_> {
         ensures below { result ≡ Raised.Certain → IsBelow self.now.rule self.now.case (from_zero spans) lane.new }
         ensures guess { IsGuess self.now.rule self.now.case lane.new }
     {
-        let guessed = self.guess_enough(lane, flags, noted, way);
-        if self.has_tolls() && self.is_past(lane) {
+        let guessed = self.guess_enough(lane, flags, noted, method);
+        if self.has_rewards() && self.is_past(lane) {
             self.lessen_guess(lane);
         }
         match guessed {
@@ -374,7 +380,7 @@ impl Table<'_, '_> {
         lane: &mut [i64],
         flags: &mut [u32],
         noted: &mut [u32],
-        way: Way,
+        method: Method,
         passes: u32,
     ) -> Option<bool>
         ghost spans: { Spans }
@@ -384,7 +390,7 @@ impl Table<'_, '_> {
     {
         rows_at_corners();
         corners_bound_weights();
-        match self.rise_from_guess(lane, flags, noted, way, passes) {
+        match self.rise_from_guess(lane, flags, noted, method, passes) {
             Raised::Least => Some(!self.is_past(lane)),
             Raised::Past => Some(false),
             Raised::Certain => self.rise_to_end(lane, flags),

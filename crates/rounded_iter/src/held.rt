@@ -18,7 +18,7 @@ use crate::steering::{Beside, Component, Looking, Steering};
 use crate::table::Table;
 use crate::worklist::take_flag;
 use corner_lift::{corners_bound_weights, rows_at_corners};
-use float_guess::{Among, HELD_STATES, most_met, worth_by};
+use float_guess::{Among, HELD_STATES, most_visited, worth_by};
 
 /// How many numbers of a held state are tried at most.
 const LOOKS: u32 = 256;
@@ -325,7 +325,7 @@ impl Table<'_, '_> {
             high: component.high,
             held: &[],
         };
-        let position = most_met(self.rows, self.rule, lane, among)?;
+        let position = most_visited(self.rows, self.rule, lane, among)?;
         if !component.has(position) {
             return None;
         }

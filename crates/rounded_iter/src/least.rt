@@ -14,7 +14,7 @@ use lift_model::Links;
 
 /// Leaves in `lane` the least bound by a rule of the case on the rectangle that its rows are lifted to: of the vectors
 /// of numbers from 0 to 2 to the `w` that have the given number where one is given, and elsewhere at least the weighted
-/// mean at the corner that counts of the choice that counts, with the toll, if there are tolls and the number is below
+/// mean at the corner that counts of the choice that counts, with the reward, if there are rewards and the number is below
 /// 2 to the `w`, the one that is least at each state. Stops where the initial state's number passes the limit. True:
 /// `lane` is that bound, and its number there is within the limit. False: in each bound it is above. What `lane` and
 /// `work` hold at entry is free. Takes no memory.

@@ -1,4 +1,5 @@
-//! Least vectors over a table of corner weights, by an iteration from below that rounds up.
+//! Least vectors (the least inductive upper bounds, also of expected rewards) over a table of corner weights, by value
+//! iteration from below that rounds up.
 #![tactic(auto)]
 
 mod below;
@@ -8,10 +9,10 @@ mod held;
 mod least;
 mod moved;
 mod priced;
+mod reward;
 mod solve;
 mod steering;
 mod table;
-mod toll;
 mod worklist;
 
 pub use least::{

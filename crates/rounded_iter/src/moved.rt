@@ -7,7 +7,7 @@ ghost use Rattle.rounded_iter.specs.Watching.{CanClimb, IsFound, CanGuess, IsGue
 use crate::guess::{RAISES, Raised};
 use crate::table::Table;
 use corner_lift::{corners_bound_weights, rows_at_corners};
-use float_guess::{Way, lessen_share, make_shares_whole, note_roundings};
+use float_guess::{Method, lessen_share, make_shares_whole, note_roundings};
 
 /// How many moved guesses are tried, until one is no fault after so many passes.
 const TRIES: u32 = 8;
@@ -103,7 +103,7 @@ impl Table<'_, '_> {
         );
     }
 
-    /// Raises guesses that are moved by what rounding makes of the numbers, where there are tolls, and tells whether the
+    /// Raises guesses that are moved by what rounding makes of the numbers, where there are rewards, and tells whether the
     /// initial state's number is within the limit: each is moved by less for the states at which the last one may have
     /// been a fault. Where the last one was none, but takes long, it is raised for a while, and what rounding makes of it
     /// is noted anew. None: no least bound came of them for certain.
@@ -124,7 +124,7 @@ impl Table<'_, '_> {
         let mut spread: u32 = 0;
         for tried in 1..=ROUNDED_TRIES {
             let passes = TRY_RAISES.saturating_add(SPREAD_RAISES.saturating_mul(spread));
-            match self.rise_from_guess(lane, flags, noted, Way::RoundedElimination, passes) {
+            match self.rise_from_guess(lane, flags, noted, Method::RoundedElimination, passes) {
                 Raised::Least => return Some(!self.is_past(lane)),
                 Raised::Past => return Some(false),
                 Raised::Certain => {
@@ -146,7 +146,7 @@ impl Table<'_, '_> {
         None
     }
 
-    /// The same of moved ones, where there are no tolls: each by lesser shares for the states at which the last one may
+    /// The same of moved ones, where there are no rewards: each by lesser shares for the states at which the last one may
     /// have been a fault.
     fn find_from_moved(
         &self,
@@ -161,15 +161,15 @@ impl Table<'_, '_> {
     {
         rows_at_corners();
         corners_bound_weights();
-        if self.has_tolls() {
+        if self.has_rewards() {
             return self.find_from_rounded(lane, flags, noted);
         }
         make_shares_whole(noted);
         let mut spread: u32 = 0;
         for _ in 0..TRIES {
             let passes = TRY_RAISES.saturating_add(SPREAD_RAISES.saturating_mul(spread));
-            let way = Way::MovedElimination;
-            if let Some(found) = self.find_from_guess(lane, flags, noted, way, passes) {
+            let method = Method::MovedElimination;
+            if let Some(found) = self.find_from_guess(lane, flags, noted, method, passes) {
                 return Some(found);
             }
             self.lessen_shares(lane, noted, spread);
@@ -210,7 +210,7 @@ impl Table<'_, '_> {
     {
         rows_at_corners();
         corners_bound_weights();
-        let raised = self.rise_from_guess(lane, flags, noted, Way::Elimination, TRY_RAISES);
+        let raised = self.rise_from_guess(lane, flags, noted, Method::Elimination, TRY_RAISES);
         match raised {
             Raised::Least => return Some(!self.is_past(lane)),
             Raised::Past => return Some(false),
@@ -239,6 +239,6 @@ impl Table<'_, '_> {
         } else {
             RAISES
         };
-        self.find_from_guess(lane, flags, noted, Way::Elimination, raises)
+        self.find_from_guess(lane, flags, noted, Method::Elimination, raises)
     }
 }

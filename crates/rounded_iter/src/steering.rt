@@ -196,8 +196,8 @@ impl Looking {
             return Some(from.saturating_add(width / 2));
         }
         self.halves = false;
-        let way = i128::from(there.number).saturating_sub(i128::from(self.here.number));
-        let part = way
+        let method = i128::from(there.number).saturating_sub(i128::from(self.here.number));
+        let part = method
             .saturating_mul(i128::from(self.here.by))
             .checked_div(all);
         let number = i128::from(self.here.number).saturating_add(part.unwrap_or(0));

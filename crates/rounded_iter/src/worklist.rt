@@ -6,7 +6,7 @@ ghost use Rattle.corner_lift.specs.Case.{number};
 ghost use Rattle.lift_grid.specs.Rectangle.{Spans};
 ghost use Rattle.lift_model.specs.Model.{choices};
 ghost use Rattle.float_guess.specs.Rule.{is_given, given};
-ghost use Rattle.rounded_iter.specs.Rising.{Run, CanTryOnly, IsSolvedBy, untolled};
+ghost use Rattle.rounded_iter.specs.Rising.{Run, CanTryOnly, IsSolvedBy, unrewarded};
 ghost use Rattle.rounded_iter.specs.Watching.{CanRaise, CanRaiseFree, IsRaisedState, CanFlag, IsFlagged, CanVisit, IsVisited, CanTurn, IsTurned, CanPass, IsPassed, IsSettled, CanGoOn, IsKept, CanClimb, IsClimbed, flag};
 
 use crate::solve::more_extreme;
@@ -89,12 +89,12 @@ fn is_over(passes: u32, patience: Option<u32>) -> bool
 }
 
 impl Table<'_, '_> {
-    /// The least number from the state's own on that is enough for the choices that count, without tolls.
+    /// The least number from the state's own on that is enough for the choices that count, without rewards.
     #[inline(always)]
     fn enough_for_state(&self, lane: &[i64], s: u32) -> i64
         ghost spans: { Spans }
         requires { CanTryOnly self.now spans lane.now s }
-        ensures { IsSolvedBy (untolled self.now.rule) self.now.case spans lane.now s
+        ensures { IsSolvedBy (unrewarded self.now.rule) self.now.case spans lane.now s
             (length (choices self.now.case.model s)) result }
     {
         rows_at_corners();
@@ -130,7 +130,7 @@ impl Table<'_, '_> {
     {
         match self.rule.ends {
             Ends::Goals => false,
-            Ends::Unranked(_) | Ends::Tolled(_) => self.rows.model().is_goal(s),
+            Ends::Unranked(_) | Ends::Rewarded(_) => self.rows.model().is_goal(s),
         }
     }
 
@@ -146,8 +146,8 @@ impl Table<'_, '_> {
         if self.is_held(s) {
             return false;
         }
-        if self.has_tolls() {
-            return self.raise_tolled(lane, s);
+        if self.has_rewards() {
+            return self.raise_rewarded(lane, s);
         }
         match self.enough_for_only(lane, s) {
             Some(number) => write_number(lane, s, number),

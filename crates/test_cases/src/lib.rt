@@ -15,16 +15,16 @@ use lift_model::Model;
 use lift_names::Names;
 use lift_rows::admit;
 use std::alloc::Global;
-use test_cells::Untold;
+use test_cells::Unreported;
 
 /// The model of a text, as far as it is short enough to be read; its goal states carry the label.
-pub fn model_of(alloc: Global, text: &[u8], label: &[u8]) -> Result<Model, Untold> {
+pub fn model_of(alloc: Global, text: &[u8], label: &[u8]) -> Result<Model, Unreported> {
     if text.len() >= 1 << 31 {
-        return Err(Untold::Text(0));
+        return Err(Unreported::Text(0));
     }
     match read_model(alloc, text, label) {
         Ok(model) => Ok(model),
-        Err(error) => Err(Untold::Text(error.line)),
+        Err(error) => Err(Unreported::Text(error.line)),
     }
 }
 
@@ -34,19 +34,24 @@ pub fn root_of(
     region: &[u8],
     names: &Names,
     depth: u32,
-) -> Result<(Grid, Rect), Untold>
+) -> Result<(Grid, Rect), Unreported>
     requires { depth ≤ most_halvings }
     ensures on_grid { IfOk result (λ p. IsOnGrid p.0.d p.0.depth (length names.now) p.1) }
     ensures depth { IfOk result (λ p. p.0.depth ≤ most_halvings) }
 {
     match read_region(alloc, region, names, depth) {
         Ok(root) => Ok(root),
-        Err(_) => Err(Untold::Text(0)),
+        Err(_) => Err(Unreported::Text(0)),
     }
 }
 
 /// The case of a model over a root, at that precision.
-pub fn case_of<'m>(model: &'m Model, root: &'m Rect, grid: Grid, w: u32) -> Result<Case<'m>, Untold>
+pub fn case_of<'m>(
+    model: &'m Model,
+    root: &'m Rect,
+    grid: Grid,
+    w: u32,
+) -> Result<Case<'m>, Unreported>
     requires grid { IsOnGrid grid.d grid.depth (length model.now.names) root.now }
     requires depth { grid.depth ≤ most_halvings }
     requires low { 1 ≤ w }
@@ -54,16 +59,16 @@ pub fn case_of<'m>(model: &'m Model, root: &'m Rect, grid: Grid, w: u32) -> Resu
 {
     match admit(model, root, grid, w) {
         Ok(case) => Ok(case),
-        Err(_) => Err(Untold::Cell),
+        Err(_) => Err(Unreported::Cell),
     }
 }
 
 /// What is asked of a case.
 pub trait Asker {
-    type Told;
+    type Reported;
 
     /// What is told of the case.
-    fn ask(&self, alloc: Global, case: &Case) -> Result<Self::Told, Untold>;
+    fn ask(&self, alloc: Global, case: &Case) -> Result<Self::Reported, Unreported>;
 }
 
 /// Where a model is asked: over the region of a text, on a grid for splits of that depth, at a precision.
@@ -80,7 +85,7 @@ pub fn ask_over<A: Asker>(
     model: &Model,
     scope: Scope<'_>,
     asker: &A,
-) -> Result<A::Told, Untold>
+) -> Result<A::Reported, Unreported>
     requires depth { scope.depth ≤ most_halvings }
     requires low { 1 ≤ scope.w }
     requires high { scope.w ≤ most_precision }
@@ -104,6 +109,6 @@ fn bound_by(fraction: Frac) -> Option<Bound> {
 }
 
 /// The bound that a cell writes.
-pub fn bound_of(cell: &str) -> Result<Bound, Untold> {
-    read_ratio(cell).and_then(bound_by).ok_or(Untold::Cell)
+pub fn bound_of(cell: &str) -> Result<Bound, Unreported> {
+    read_ratio(cell).and_then(bound_by).ok_or(Unreported::Cell)
 }

@@ -8,18 +8,19 @@ use std::fmt::{Debug, Display};
 
 /// What is told of the rows of a table.
 pub trait Teller {
-    type Told: Display + Debug + Drop;
+    type Reported: Display + Debug + Drop;
 
     type Error: Debug + Drop;
 
     /// What is told of the cells of a row that ask.
-    fn tell(&self, alloc: Global, asked: &str) -> Result<Self::Told, Self::Error>;
+    fn tell(&self, alloc: Global, asked: &str) -> Result<Self::Reported, Self::Error>;
 }
 
 /// Whether something is told, and shown so.
-pub fn is_shown<D: Display, E>(alloc: Global, told: &Result<D, E>, want: &str) -> bool {
-    match told {
-        Ok(told) => matches!(format!(in alloc; "{told}"), Ok(shown) if shown.as_str() == want),
+pub fn is_shown<D: Display, E>(alloc: Global, reported: &Result<D, E>, want: &str) -> bool {
+    match reported {
+        Ok(reported) =>
+            matches!(format!(in alloc; "{reported}"), Ok(shown) if shown.as_str() == want),
         Err(_) => false,
     }
 }
@@ -27,12 +28,12 @@ pub fn is_shown<D: Display, E>(alloc: Global, told: &Result<D, E>, want: &str) -
 /// What the rows of a table say.
 pub trait Claim {
     /// Whether what a row says is so.
-    fn holds(&self, alloc: Global, row: &str) -> Result<bool, Untold>;
+    fn holds(&self, alloc: Global, row: &str) -> Result<bool, Unreported>;
 }
 
 /// Why nothing is told, or not whether what a row says is so.
 #[derive(Clone, Copy, Debug)]
-pub enum Untold {
+pub enum Unreported {
     /// There is no memory left.
     NoMemory,
     /// A cell of the row is none of its table.
@@ -41,9 +42,9 @@ pub enum Untold {
     Text(u32),
 }
 
-impl From<AllocError> for Untold {
+impl From<AllocError> for Unreported {
     fn from(_: AllocError) -> Self {
-        Untold::NoMemory
+        Unreported::NoMemory
     }
 }
 

@@ -2,7 +2,7 @@
 
 use std::alloc::Global;
 use test_cases::{Asker, Scope, ask_over, model_of};
-use test_cells::Untold;
+use test_cells::Unreported;
 
 /// A coin that shows heads with p.
 const COIN: &[u8] = b"@type: DTMC\n@parameters\np\n@model\nstate 0 init\n1 : p\n2 : 1-p\n\
@@ -15,9 +15,9 @@ pub(crate) fn ask_coin<A: Asker>(
     region: &str,
     depth: u32,
     asker: &A,
-) -> Result<A::Told, Untold> {
+) -> Result<A::Reported, Unreported> {
     if depth > 20 {
-        return Err(Untold::Cell);
+        return Err(Unreported::Cell);
     }
     let model = model_of(alloc, COIN, b"heads")?;
     let scope = Scope {
@@ -25,7 +25,7 @@ pub(crate) fn ask_coin<A: Asker>(
         depth,
         w: 4,
     };
-    let told = ask_over(alloc, &model, scope, asker);
+    let reported = ask_over(alloc, &model, scope, asker);
     drop(model);
-    told
+    reported
 }

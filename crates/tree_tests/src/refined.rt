@@ -18,7 +18,7 @@ use std::alloc::{AllocError, Global};
 use std::fmt::Write;
 use std::string::String;
 use test_cases::{Asker, bound_of};
-use test_cells::{Teller, Untold, count, cut_two};
+use test_cells::{Teller, Unreported, count, cut_two};
 
 /// The coin with the bound 1/2, at precision 4: p's interval, the depth, the least precision, the depth at which the tree is
 /// cut that is gone on from, and in preorder the tree that is shown. A leaf of the first tree has the letter of its kind after
@@ -75,14 +75,14 @@ impl<'n> Base for Nodes<'n> {
 
 /// Tells a rejecting leaf.
 fn tell_reject(
-    told: &mut String,
+    reported: &mut String,
     numbers: &[i64],
     picks: &[u32],
     ranks: &[u32],
 ) -> Result<(), AllocError> {
-    tell_numbers(told, numbers)?;
-    tell_marks(told, picks)?;
-    tell_marks(told, ranks)
+    tell_numbers(reported, numbers)?;
+    tell_marks(reported, picks)?;
+    tell_marks(reported, ranks)
 }
 
 /// The words of a leaf that was given.
@@ -98,17 +98,17 @@ fn given_words(bytes: &[u8]) -> &'static str {
 #[derive(Drop)]
 struct Shown<'c, 'm> {
     case: &'c Case<'m>,
-    told: String,
+    reported: String,
     /// Whether there was memory for all.
     is_whole: bool,
 }
 
 impl<'c, 'm> Shown<'c, 'm> {
     /// Notes whether there was memory for a node.
-    fn note(&mut self, told: Result<(), AllocError>)
+    fn note(&mut self, reported: Result<(), AllocError>)
         ensures { self.new.case ≡ self.old.case }
     {
-        self.is_whole &= told.is_ok();
+        self.is_whole &= reported.is_ok();
     }
 }
 
@@ -125,33 +125,33 @@ impl<'c, 'm> Visitor for Shown<'c, 'm> {
 
     #[tactic(auto, using(crate::proofs::Cutting::kept))]
     fn split(&mut self, axis: u32) -> Seen {
-        let told = write!(self.told, "split {axis} ");
-        self.note(told);
+        let reported = write!(self.reported, "split {axis} ");
+        self.note(reported);
         Seen::Kept
     }
 
     #[tactic(auto, using(crate::proofs::Cutting::kept))]
     fn accept(&mut self, u: u32, x: &[i64]) -> Seen {
-        let told = write!(self.told, "at {u} accept ");
-        self.note(told);
-        let told = tell_numbers(&mut self.told, x);
-        self.note(told);
+        let reported = write!(self.reported, "at {u} accept ");
+        self.note(reported);
+        let reported = tell_numbers(&mut self.reported, x);
+        self.note(reported);
         Seen::Kept
     }
 
     #[tactic(auto, using(crate::proofs::Cutting::kept))]
     fn reject(&mut self, u: u32, e: u32, k: u32, y: &[i64], picks: &[u32], ranks: &[u32]) -> Seen {
-        let told = write!(self.told, "at {u} reject {e} {k} ");
-        self.note(told);
-        let told = tell_reject(&mut self.told, y, picks, ranks);
-        self.note(told);
+        let reported = write!(self.reported, "at {u} reject {e} {k} ");
+        self.note(reported);
+        let reported = tell_reject(&mut self.reported, y, picks, ranks);
+        self.note(reported);
         Seen::Kept
     }
 
     #[tactic(auto, using(crate::proofs::Cutting::kept))]
     fn unknown(&mut self) -> Seen {
-        let told = self.told.push_str("unknown ");
-        self.note(told);
+        let reported = self.reported.push_str("unknown ");
+        self.note(reported);
         Seen::Kept
     }
 }
@@ -159,8 +159,8 @@ impl<'c, 'm> Visitor for Shown<'c, 'm> {
 impl<'c, 'm> Copier for Shown<'c, 'm> {
     #[tactic(auto, using(crate::proofs::Cutting::kept))]
     fn copy(&mut self, bytes: &[u8]) -> Seen {
-        let told = self.told.push_str(given_words(bytes));
-        self.note(told);
+        let reported = self.reported.push_str(given_words(bytes));
+        self.note(reported);
         Seen::Kept
     }
 }
@@ -217,12 +217,12 @@ fn nodes_of(alloc: Global, question: &Question) -> Result<Vec<Given>, AllocError
 }
 
 /// A tree that was told, with a bar behind it, if there was memory for all.
-fn with_bar(mut told: String, is_whole: bool) -> Result<String, Untold> {
+fn with_bar(mut reported: String, is_whole: bool) -> Result<String, Unreported> {
     if !is_whole {
-        return Err(Untold::NoMemory);
+        return Err(Unreported::NoMemory);
     }
-    told.push('|')?;
-    Ok(told)
+    reported.push('|')?;
+    Ok(reported)
 }
 
 /// The tree that goes on from these nodes, by a room that was made for the case.
@@ -231,7 +231,7 @@ fn refined_in(
     question: &Question,
     nodes: &[Given],
     room: &mut Room,
-) -> Result<String, Untold>
+) -> Result<String, Unreported>
     requires links { AreLinks question.now.case.now.model question.now.links.now }
     requires from { Between 1 question.now.case.now.w question.now.from }
     requires nodes { AreGivenOfCut question.now.case.now question.now.from question.now.bound
@@ -245,7 +245,7 @@ fn refined_in(
     };
     let mut shown = Shown {
         case,
-        told: String::new(alloc),
+        reported: String::new(alloc),
         is_whole: true,
     };
     refine(
@@ -257,19 +257,19 @@ fn refined_in(
         &mut base,
         &mut shown,
     );
-    with_bar(shown.told, shown.is_whole)
+    with_bar(shown.reported, shown.is_whole)
 }
 
 /// The tree that goes on from the one which is cut.
-fn question_told(alloc: Global, question: &Question) -> Result<String, Untold>
+fn question_reported(alloc: Global, question: &Question) -> Result<String, Unreported>
     requires links { AreLinks question.now.case.now.model question.now.links.now }
     requires from { Between 1 question.now.case.now.w question.now.from }
 {
     let nodes = nodes_of(alloc, question)?;
     let mut room = Room::make(alloc, question.case, question.links)?;
-    let told = refined_in(alloc, question, &nodes, &mut room);
+    let reported = refined_in(alloc, question, &nodes, &mut room);
     drop(room);
-    told
+    reported
 }
 
 /// What a row asks beside p's interval and the case's depth: the least precision, and the depth at which the tree is cut.
@@ -280,12 +280,12 @@ struct Asked {
 }
 
 impl Asker for Asked {
-    type Told = String;
+    type Reported = String;
 
     /// The tree of a case that goes on from the one which is cut, for the bound 1/2.
-    fn ask(&self, alloc: Global, case: &Case) -> Result<String, Untold> {
+    fn ask(&self, alloc: Global, case: &Case) -> Result<String, Unreported> {
         if self.from < 1 || self.from > case.w() {
-            return Err(Untold::Cell);
+            return Err(Unreported::Cell);
         }
         let bound = bound_of("1/2")?;
         let links = Links::build(alloc, case.model())?;
@@ -296,20 +296,20 @@ impl Asker for Asked {
             from: self.from,
             depth: self.depth,
         };
-        let told = question_told(alloc, &question);
+        let reported = question_reported(alloc, &question);
         drop(links);
-        told
+        reported
     }
 }
 
 struct Refined;
 
 impl Teller for Refined {
-    type Told = String;
+    type Reported = String;
 
-    type Error = Untold;
+    type Error = Unreported;
 
-    fn tell(&self, alloc: Global, asked: &str) -> Result<String, Untold> {
+    fn tell(&self, alloc: Global, asked: &str) -> Result<String, Unreported> {
         let (region, depth, rest) = cut_two(asked);
         let (from, cut) = test_cells::cut(rest);
         let asked = Asked {

@@ -14,7 +14,7 @@ use region_tree::Room;
 use std::alloc::{AllocError, Global};
 use std::string::String;
 use test_cases::{Asker, bound_of};
-use test_cells::{Teller, Untold, cut, number};
+use test_cells::{Teller, Unreported, cut, number};
 
 /// The report of the coin for p from 1/10 to 9/10, the bound 1/2, precision 4 and depth 2.
 const REPORT: &[u8] = b"plift 1\nkind dtmc\nparameters 1 p\ncommon 1\nstates 3\ninit 0\ngoal 1 1\n\
@@ -65,28 +65,28 @@ fn missing(out: &MemSink) -> Option<usize> {
 }
 
 /// Whether each of both reports is written whole, and what is missing of it.
-fn written_told(
+fn written_reported(
     alloc: Global,
     case: &Case,
     bounds: [Bound; 2],
     first: &mut MemSink,
     second: &mut MemSink,
-) -> Result<String, Untold> {
+) -> Result<String, Unreported> {
     let (is_first, is_second) = are_written(alloc, case, bounds, first, second)?;
     let (first, second) = (missing(first), missing(second));
     Ok(format!(in alloc; "{is_first} {first:?}, {is_second} {second:?}")?)
 }
 
 /// The same where a call of the first sink fails.
-fn case_told(
+fn case_reported(
     alloc: Global,
     case: &Case,
     bounds: [Bound; 2],
     failing: u64,
-) -> Result<String, Untold> {
+) -> Result<String, Unreported> {
     let mut first = sink(alloc, failing)?;
     let mut second = sink(alloc, 0)?;
-    written_told(alloc, case, bounds, &mut first, &mut second)
+    written_reported(alloc, case, bounds, &mut first, &mut second)
 }
 
 /// The bounds of two reports, and which call of the first one's sink fails.
@@ -97,10 +97,10 @@ struct Reports {
 }
 
 impl Asker for Reports {
-    type Told = String;
+    type Reported = String;
 
-    fn ask(&self, alloc: Global, case: &Case) -> Result<String, Untold> {
-        case_told(alloc, case, self.bounds, self.failing)
+    fn ask(&self, alloc: Global, case: &Case) -> Result<String, Unreported> {
+        case_reported(alloc, case, self.bounds, self.failing)
     }
 }
 
@@ -114,11 +114,11 @@ const ROOMS: &str = "\
 struct Rooms;
 
 impl Teller for Rooms {
-    type Told = String;
+    type Reported = String;
 
-    type Error = Untold;
+    type Error = Unreported;
 
-    fn tell(&self, alloc: Global, asked: &str) -> Result<String, Untold> {
+    fn tell(&self, alloc: Global, asked: &str) -> Result<String, Unreported> {
         let (bound, failing) = cut(asked);
         let bounds = [bound_of(bound)?, bound_of("1/2")?];
         let reports = Reports {

@@ -1,4 +1,5 @@
-//! The tree of a case, whoever decides its rectangles: its nodes are written, or the tree is built.
+//! The tree of a case (region refinement), whoever decides its rectangles: its nodes are written (in preorder), or the
+//! tree is built.
 #![tactic(auto)]
 
 mod building;

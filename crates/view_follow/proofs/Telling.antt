@@ -8,7 +8,7 @@ use Rattle.std.specs.Io.KnownBytes.{Consumes}
 use Rattle.lift_base.specs.Outside.{Wrote}
 use Rattle.lift_base.specs.Laws.{Written}
 use Rattle.view_follow.specs.Nodes.{node_of, node_of_line, nodes_in, nodes_behind, node_ended, nodes_ended, node_in, with_byte, line_behind, line_after}
-use Rattle.view_follow.specs.Progress.{ProgressData, beginning, behind_node, when_told, lines_due, lines_behind, line_text, percent, share_sum, progress_behind, progress_data, progress_lines, Passes, WroteEach}
+use Rattle.view_follow.specs.Progress.{ProgressData, beginning, behind_node, when_reported, lines_due, lines_behind, line_text, percent, share_sum, progress_behind, progress_data, progress_lines, Passes, WroteEach}
 use Rattle.view_follow.specs.declared.line.Line.{Line}
 use Rattle.view_follow.specs.declared.line.Line.TheVariants.{Empty, One, Begun}
 use Rattle.view_follow.specs.declared.line.NodeLine.{NodeLine}
@@ -36,14 +36,14 @@ nodes_append line (x ∷ xs) ys =
 progress_append : (p : ProgressData) (xs ys : List NodeLine) → progress_behind p (xs ++ ys) ≡ progress_behind (progress_behind p xs) ys
 unfolding progress_behind
 progress_append p [] ys = refl
-progress_append p (x ∷ xs) ys = progress_append (when_told (behind_node p x)) xs ys
+progress_append p (x ∷ xs) ys = progress_append (when_reported (behind_node p x)) xs ys
 
-told_append : (lines : Lines) (p : ProgressData) (xs ys : List NodeLine) → lines_behind lines p (xs ++ ys) ≡ lines_behind lines p xs ++ lines_behind lines (progress_behind p xs) ys
+reported_append : (lines : Lines) (p : ProgressData) (xs ys : List NodeLine) → lines_behind lines p (xs ++ ys) ≡ lines_behind lines p xs ++ lines_behind lines (progress_behind p xs) ys
 unfolding progress_behind lines_behind
-told_append lines p [] ys = refl
-told_append lines p (x ∷ xs) ys =
-    ap (λ (ts : List (List ℕ)). lines_due lines (behind_node p x) ++ ts) (told_append lines (when_told (behind_node p x)) xs ys)
-    ∙ sym (append_assoc (lines_due lines (behind_node p x)) (lines_behind lines (when_told (behind_node p x)) xs) (lines_behind lines (progress_behind (when_told (behind_node p x)) xs) ys))
+reported_append lines p [] ys = refl
+reported_append lines p (x ∷ xs) ys =
+    ap (λ (ts : List (List ℕ)). lines_due lines (behind_node p x) ++ ts) (reported_append lines (when_reported (behind_node p x)) xs ys)
+    ∙ sym (append_assoc (lines_due lines (behind_node p x)) (lines_behind lines (when_reported (behind_node p x)) xs) (lines_behind lines (progress_behind (when_reported (behind_node p x)) xs) ys))
 
 module _ {E : Type 0} (taken : E → Option (List ℕ)) (faults : E → ℕ) where
   pub each_append : (old mid new : E) (xs ys : List (List ℕ)) → WroteEach taken faults old mid xs → WroteEach taken faults mid new ys → WroteEach taken faults old new (xs ++ ys)
@@ -51,15 +51,15 @@ module _ {E : Type 0} (taken : E → Option (List ℕ)) (faults : E → ℕ) whe
   each_append old mid new (x ∷ xs) ys h k = (h.0, h.1, h.2, each_append h.0 mid new xs ys h.3 k)
 
   -- a line that is due
-  pub told_once : (old new : E) (lines : Lines) (p : ProgressData) (end : Written) → p.told < percent (share_sum p.shares) → Wrote taken faults old new end (line_text lines p) → WroteEach taken faults old new (lines_due lines p)
-  told_once old new lines p end less w =
-      let due : nat_lt p.told (percent (share_sum p.shares)) ≡ true = lt-ltb p.told (percent (share_sum p.shares)) less in
+  pub reported_once : (old new : E) (lines : Lines) (p : ProgressData) (end : Written) → p.reported < percent (share_sum p.shares) → Wrote taken faults old new end (line_text lines p) → WroteEach taken faults old new (lines_due lines p)
+  reported_once old new lines p end less w =
+      let due : nat_lt p.reported (percent (share_sum p.shares)) ≡ true = lt-ltb p.reported (percent (share_sum p.shares)) less in
       subst (λ (b : Bool). WroteEach taken faults old new (cond b (line_text lines p ∷ []) [])) (sym due) (new, end, w, refl)
 
   -- no byte has come
   pub passes_nothing : (notes : E) (p : Progress) → Passes taken faults notes notes p p []
   unfolding line_after nodes_ended progress_behind lines_behind
-  passes_nothing notes p = record { state = refl; line = refl; lines = refl; told = refl }
+  passes_nothing notes p = record { state = refl; line = refl; lines = refl; reported = refl }
 
   -- some bytes, and some more
   pub passes_both : (old mid new : E) (p q r : Progress) (xs ys : List ℕ) → Passes taken faults old mid p q xs → Passes taken faults mid new q r ys → Passes taken faults old new p r (xs ++ ys)
@@ -73,8 +73,8 @@ module _ {E : Type 0} (taken : E → Option (List ℕ)) (faults : E → ℕ) whe
         state = k.state ∙ ap (λ (d : ProgressData). progress_behind d more) h.state ∙ sym (progress_append (progress_data p) nodes more) ∙ ap (λ (ns : List NodeLine). progress_behind (progress_data p) ns) (sym all);
         line = k.line ∙ ap (λ (l : Line). line_after l ys) h.line ∙ sym (line_append p.line xs ys);
         lines = k.lines ∙ h.lines;
-        told = subst (λ (ts : List (List ℕ)). WroteEach taken faults old new ts) (sym (ap (λ (ns : List NodeLine). lines_behind p.lines (progress_data p) ns) all ∙ told_append p.lines (progress_data p) nodes more))
-            (each_append old mid new _ _ h.told (subst (λ (ts : List (List ℕ)). WroteEach taken faults mid new ts) same k.told));
+        reported = subst (λ (ts : List (List ℕ)). WroteEach taken faults old new ts) (sym (ap (λ (ns : List NodeLine). lines_behind p.lines (progress_data p) ns) all ∙ reported_append p.lines (progress_data p) nodes more))
+            (each_append old mid new _ _ h.reported (subst (λ (ts : List (List ℕ)). WroteEach taken faults mid new ts) same k.reported));
       }
 
   -- ---- one byte
@@ -88,22 +88,22 @@ module _ {E : Type 0} (taken : E → Option (List ℕ)) (faults : E → ℕ) whe
         state = state ∙ ap (λ (ns : List NodeLine). progress_behind (progress_data p) ns) (sym nodes);
         line = line;
         lines = lines;
-        told = subst (λ (ns : List NodeLine). WroteEach taken faults notes notes (lines_behind p.lines (progress_data p) ns)) (sym nodes) refl;
+        reported = subst (λ (ns : List NodeLine). WroteEach taken faults notes notes (lines_behind p.lines (progress_data p) ns)) (sym nodes) refl;
       }
 
   -- one that ends a node's line
-  pub passes_node : (old new : E) (p q p' : Progress) (byte : ℕ) (node : NodeLine) → node_ended p.line byte ≡ Some node → progress_data q ≡ behind_node (progress_data p) node → q.lines ≡ p.lines → progress_data p' ≡ when_told (progress_data q)
+  pub passes_node : (old new : E) (p q p' : Progress) (byte : ℕ) (node : NodeLine) → node_ended p.line byte ≡ Some node → progress_data q ≡ behind_node (progress_data p) node → q.lines ≡ p.lines → progress_data p' ≡ when_reported (progress_data q)
       → p'.line ≡ line_behind p.line byte → p'.lines ≡ q.lines → WroteEach taken faults old new (lines_due q.lines (progress_data q)) → Passes taken faults old new p p' (byte ∷ [])
   unfolding line_after nodes_ended progress_behind lines_behind
-  passes_node old new p q p' byte node some came mode state line lines told =
+  passes_node old new p q p' byte node some came mode state line lines reported =
       let nodes : nodes_ended p.line (byte ∷ []) ≡ node ∷ [] = ap (λ (o : Option NodeLine). option_to_list o ++ []) some in
       let due : lines_due q.lines (progress_data q) ≡ lines_due p.lines (behind_node (progress_data p) node) ++ [] =
       ap (λ (l : Lines). lines_due l (progress_data q)) mode ∙ ap (λ (d : ProgressData). lines_due p.lines d) came ∙ sym (append-nil (lines_due p.lines (behind_node (progress_data p) node))) in
       record {
-        state = state ∙ ap when_told came ∙ ap (λ (ns : List NodeLine). progress_behind (progress_data p) ns) (sym nodes);
+        state = state ∙ ap when_reported came ∙ ap (λ (ns : List NodeLine). progress_behind (progress_data p) ns) (sym nodes);
         line = line;
         lines = lines ∙ mode;
-        told = subst (λ (ns : List NodeLine). WroteEach taken faults old new (lines_behind p.lines (progress_data p) ns)) (sym nodes) (subst (λ (ts : List (List ℕ)). WroteEach taken faults old new ts) due told);
+        reported = subst (λ (ns : List NodeLine). WroteEach taken faults old new (lines_behind p.lines (progress_data p) ns)) (sym nodes) (subst (λ (ts : List (List ℕ)). WroteEach taken faults old new ts) due reported);
       }
 
 -- ---- lines and the two bytes that are kept of them
@@ -140,9 +140,9 @@ same_nodes line (byte ∷ bytes) = step (byte == code "\n") line byte bytes (sam
 
 module _ {E : Type 0} (taken : E → Option (List ℕ)) (faults : E → ℕ) where
   -- the last line behind those that were told while the bytes came
-  pub told_all : (old mid new : E) (lines : Lines) (p p' : Progress) (bytes : List ℕ) → progress_data p ≡ beginning → p.line ≡ Empty → p.lines ≡ lines → WroteEach taken faults mid new (line_text Apart (progress_data p') ∷ [])
+  pub reported_all : (old mid new : E) (lines : Lines) (p p' : Progress) (bytes : List ℕ) → progress_data p ≡ beginning → p.line ≡ Empty → p.lines ≡ lines → WroteEach taken faults mid new (line_text Apart (progress_data p') ∷ [])
       → Passes taken faults old mid p p' bytes → WroteEach taken faults old new (progress_lines lines bytes)
-  told_all old mid new lines p p' bytes begins empty mode end h =
+  reported_all old mid new lines p p' bytes begins empty mode end h =
       let nodes : nodes_ended p.line bytes ≡ nodes_in bytes = ap (λ (l : Line). nodes_ended l bytes) empty ∙ same_nodes [] bytes in
       let came : progress_data p' ≡ progress_behind beginning (nodes_in bytes) =
       h.state ∙ ap (λ (d : ProgressData). progress_behind d (nodes_ended p.line bytes)) begins ∙ ap (λ (ns : List NodeLine). progress_behind beginning ns) nodes in
@@ -151,7 +151,7 @@ module _ {E : Type 0} (taken : E → Option (List ℕ)) (faults : E → ℕ) whe
       ∙ ap (λ (d : ProgressData). lines_behind lines d (nodes_ended p.line bytes)) begins
       ∙ ap (λ (ns : List NodeLine). lines_behind lines beginning ns) nodes in
       each_append taken faults old mid new _ _
-      (subst (λ (ts : List (List ℕ)). WroteEach taken faults old mid ts) texts h.told)
+      (subst (λ (ts : List (List ℕ)). WroteEach taken faults old mid ts) texts h.reported)
       (subst (λ (d : ProgressData). WroteEach taken faults mid new (line_text Apart d ∷ [])) came end)
 
 module _ {S : Type 0} (left : S → Option (List ℕ)) (source source' : S) where

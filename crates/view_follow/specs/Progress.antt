@@ -46,11 +46,11 @@ pub record ProgressData : Type 0 where
   pub shares : SharesData
   pub next : ℕ
   pub leaves : ℕ
-  pub told : ℕ
+  pub reported : ℕ
 
 -- at first nothing has come
 abbrev pub beginning : ProgressData
-beginning = record { shares = record { accepted = 0; rejected = 0; unknown = 0 }; next = whole; leaves = 0; told = 0 }
+beginning = record { shares = record { accepted = 0; rejected = 0; unknown = 0 }; next = whole; leaves = 0; reported = 0 }
 
 -- behind a leaf: what comes before a node is a multiple of its share, so that the next one's is the greatest power of 2 in all that has come
 abbrev pub behind_leaf : ProgressData → NodeLine → ProgressData
@@ -86,21 +86,21 @@ line_text lines p =
 
 -- a line is due where a percent more has come than was told
 abbrev pub lines_due : Lines → ProgressData → List (List ℕ)
-lines_due lines p = if nat_lt p.told (percent (share_sum p.shares)) then line_text lines p ∷ [] else []
+lines_due lines p = if nat_lt p.reported (percent (share_sum p.shares)) then line_text lines p ∷ [] else []
 
 -- how far the report has come when that was told
-abbrev pub when_told : ProgressData → ProgressData
-when_told p = if nat_lt p.told (percent (share_sum p.shares)) then record p { told = percent (share_sum p.shares) } else p
+abbrev pub when_reported : ProgressData → ProgressData
+when_reported p = if nat_lt p.reported (percent (share_sum p.shares)) then record p { reported = percent (share_sum p.shares) } else p
 
 -- the lines that are told while nodes come
 unfoldable pub lines_behind : Lines → ProgressData → List NodeLine → List (List ℕ)
 lines_behind lines p [] = []
-lines_behind lines p (node ∷ nodes) = lines_due lines (behind_node p node) ++ lines_behind lines (when_told (behind_node p node)) nodes
+lines_behind lines p (node ∷ nodes) = lines_due lines (behind_node p node) ++ lines_behind lines (when_reported (behind_node p node)) nodes
 
 -- how far the report has come behind nodes
 unfoldable pub progress_behind : ProgressData → List NodeLine → ProgressData
 progress_behind p [] = p
-progress_behind p (node ∷ nodes) = progress_behind (when_told (behind_node p node)) nodes
+progress_behind p (node ∷ nodes) = progress_behind (when_reported (behind_node p node)) nodes
 
 -- all that is told of some bytes of a report: the lines that are due while its nodes come, and how far it has come at the end
 abbrev pub progress_lines : Lines → List ℕ → List (List ℕ)
@@ -120,11 +120,11 @@ shares_data s = record { accepted = s.accept; rejected = s.reject; unknown = s.u
 
 -- how far a report has come, as the code keeps it
 abbrev pub progress_data : Progress → ProgressData
-progress_data p = record { shares = shares_data p.shares; next = p.next; leaves = p.leaves; told = p.told }
+progress_data p = record { shares = shares_data p.shares; next = p.next; leaves = p.leaves; reported = p.reported }
 
 -- what some bytes change, and what was told while they came
 pub record Passes {E : Type 0} (taken : E → Option (List ℕ)) (faults : E → ℕ) (old new : E) (p p' : Progress) (bytes : List ℕ) : Type 0 where
   pub state : progress_data p' ≡ progress_behind (progress_data p) (nodes_ended p.line bytes)
   pub line : p'.line ≡ line_after p.line bytes
   pub lines : p'.lines ≡ p.lines
-  pub told : WroteEach taken faults old new (lines_behind p.lines (progress_data p) (nodes_ended p.line bytes))
+  pub reported : WroteEach taken faults old new (lines_behind p.lines (progress_data p) (nodes_ended p.line bytes))

@@ -36,7 +36,7 @@ fn copy<S: Source, K: Sink, E: Sink>(
 ) -> Result<(), CopyError>
     ensures copied { Copies S.left S.faults K.taken K.faults
         source.old source.new out.old out.new result }
-    ensures told { PassedHas (Passes E.taken E.faults notes.old notes.new progress.old progress.new)
+    ensures reported { PassedHas (Passes E.taken E.faults notes.old notes.new progress.old progress.new)
         S.left source.old source.new result }
 {
     let mut buffer = [0u8; PIECE];
@@ -64,7 +64,7 @@ pub fn follow<S: Source, K: Sink, E: Sink>(
 ) -> Result<(), CopyError>
     ensures copied { Copies S.left S.faults K.taken K.faults
         source.old source.new out.old out.new result }
-    ensures told { Tells S.left E.taken E.faults lines source.old source.new notes.old notes.new result }
+    ensures reported { Tells S.left E.taken E.faults lines source.old source.new notes.old notes.new result }
 {
     let mut progress = Progress::new(lines);
     let copied = copy(source, out, notes, &mut progress);

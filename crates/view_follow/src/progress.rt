@@ -2,7 +2,7 @@
 ghost use Rattle.std.specs.Prelude.{◌≡◌, ◌∷◌, []};
 ghost use Rattle.lift_base.specs.Outside.{Wrote};
 ghost use Rattle.view_follow.specs.Progress.{beginning, behind_leaf, behind_node, line_end, line_text};
-ghost use Rattle.view_follow.specs.Progress.{lines_due, Passes, progress_data, when_told, WroteEach};
+ghost use Rattle.view_follow.specs.Progress.{lines_due, Passes, progress_data, when_reported, WroteEach};
 ghost use Rattle.view_follow.specs.declared.line.Line.TheVariants.{Empty};
 ghost use Rattle.view_follow.specs.declared.progress.Lines.TheVariants.{Apart};
 
@@ -28,7 +28,7 @@ pub struct Progress {
     pub next: u32,
     pub leaves: u64,
     /// How many percent had come when it was told last.
-    pub told: u64,
+    pub reported: u64,
     pub lines: Lines,
 }
 
@@ -58,7 +58,7 @@ impl Progress {
             },
             next: WHOLE,
             leaves: 0,
-            told: 0,
+            reported: 0,
             lines,
         }
     }
@@ -118,16 +118,16 @@ impl Progress {
     // Tells how far the report has come, where it is a percent more than was told. That it can't be
     // written changes nothing.
     fn tell<E: Sink>(&mut self, notes: &mut E)
-        ensures state { progress_data self.new ≡ when_told (progress_data self.old) }
+        ensures state { progress_data self.new ≡ when_reported (progress_data self.old) }
         ensures line { self.new.line ≡ self.old.line }
         ensures lines { self.new.lines ≡ self.old.lines }
-        ensures told { WroteEach E.taken E.faults notes.old notes.new
+        ensures reported { WroteEach E.taken E.faults notes.old notes.new
             (lines_due self.old.lines (progress_data self.old)) }
     {
         let percent = Shares::percent(self.shares.sum());
-        if self.told < percent {
+        if self.reported < percent {
             let _ = self.write(notes, self.lines);
-            self.told = percent;
+            self.reported = percent;
         }
     }
 

@@ -5,7 +5,7 @@ use Rattle.line_text.specs.Reading.{Cursor}
 use Rattle.line_text.specs.declared.error.TextError.{TextError}
 use Rattle.cert_text.specs.Head.{HeadData, head_at}
 use Rattle.cert_text.specs.Report.{tree_lines}
-use Rattle.cert_text.specs.Laws.{told_lines, text_of, HeadsAreReadBack}
+use Rattle.cert_text.specs.Laws.{reported_lines, text_of, HeadsAreReadBack}
 use Rattle.cert_check.specs.Sound.{IsSound, IsSoundFile}
 use Rattle.cert_check.specs.declared.summary.Summary.{Summary}
 use Rattle.view_map.specs.Parts.{MapData, PartData, parts}
@@ -23,7 +23,7 @@ parts_of back text leaves file h m left read =
     let g = file.head in
     let trees = concat (tree_lines g.from g.asked.model.init file.tree) in
     let there = ap (λ b. head_at (1, b)) file.text ∙ back g 1 trees file.sound.report.head in
-    let pairs = ok_is (h, (m, left)) (g, (1 + length (told_lines g), trees)) (sym read ∙ there) in
+    let pairs = ok_is (h, (m, left)) (g, (1 + length (reported_lines g), trees)) (sym read ∙ there) in
     (ap (λ (p : HeadData × Cursor). p.0) pairs, ap (λ (p : HeadData × Cursor). p.1.1) pairs)
 
 nodes_of : HeadsAreReadBack → (text : List ℕ) (leaves : Summary) (file : IsSoundFile text leaves) (h : HeadData) (m : ℕ) (left : List ℕ) → head_at (1, text) ≡ Ok (h, (m, left)) → AreNodes h left file.tree

@@ -1,5 +1,5 @@
-//! What a sound report says of its region, as a list of leaves; the slice of the region that is
-//! looked at; and the shares of its volume.
+//! What a sound report says of its region, as a list of leaves (the parts of a region that hold, fail or are unknown);
+//! the slice of the region that is looked at; and the shares of its volume.
 #![tactic(auto)]
 
 mod choice;

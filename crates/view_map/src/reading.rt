@@ -5,7 +5,7 @@ ghost use Rattle.lift_grid.specs.Splitting.{IsHalvable};
 ghost use Rattle.lift_grid.specs.Tree.{lower_half};
 ghost use Rattle.cert_check.specs.Answer.{Answers};
 ghost use Rattle.cert_check.specs.Source.{file_limit};
-ghost use Rattle.cert_check.specs.Shown.{IsToldOfFile};
+ghost use Rattle.cert_check.specs.Shown.{IsReportedOfFile};
 ghost use Rattle.view_map.specs.Parts.{part_with};
 ghost use Rattle.view_map.specs.Mapping.{Adds, BeginsWithSomeTree, HasNodes, IsMapOf, IsMapped, StandsAt};
 
@@ -112,7 +112,7 @@ pub fn read_map(alloc: Global, text: &[u8]) -> Result<ReportMap, CheckError>
     requires { length text.now ≤ file_limit }
     ensures map { IfOk result (λ m. IsMapOf text.now m.head m.parts) }
     ensures refused { IfErr result (λ e. e ≢ CheckError.Memory → Answers text.now (Err e)) }
-    ensures told { IfErr result IsToldOfFile }
+    ensures reported { IfErr result IsReportedOfFile }
 {
     heads_are_read();
     check_text(alloc, text)?;

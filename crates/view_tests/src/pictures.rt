@@ -2,7 +2,7 @@
 use crate::cells::each_claim;
 use lift_base::{MemSink, Text};
 use std::alloc::{AllocError, Global};
-use test_cells::{Claim, Untold};
+use test_cells::{Claim, Unreported};
 use view_map::{ReportMap, read_map, slice_of};
 use view_text::Picture;
 
@@ -111,7 +111,7 @@ fn is_drawn(alloc: Global, text: &[u8], part: &str) -> Result<bool, AllocError> 
 struct Drawn;
 
 impl Claim for Drawn {
-    fn holds(&self, alloc: Global, row: &str) -> Result<bool, Untold> {
+    fn holds(&self, alloc: Global, row: &str) -> Result<bool, Unreported> {
         let Some((name, part)) = row.split_once(" | ") else {
             return Ok(false);
         };

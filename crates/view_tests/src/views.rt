@@ -4,7 +4,7 @@ use crate::pictures::{find_report, is_within, lines_of};
 use check_notes::Status;
 use lift_base::{MemSink, MemSource};
 use std::alloc::{AllocError, Global};
-use test_cells::{Claim, Untold};
+use test_cells::{Claim, Unreported};
 use view_follow::Lines;
 use view_top::run;
 
@@ -82,7 +82,7 @@ struct Want<'a> {
     room: usize,
     status: &'a str,
     taken: &'a str,
-    told: &'a str,
+    reported: &'a str,
 }
 
 // A row of the first table; none where there are fewer cells.
@@ -97,7 +97,7 @@ fn view_of(row: &str) -> Option<Want<'_>> {
         room: 10_000,
         status: cells.next()?,
         taken: cells.next()?,
-        told: cells.next()?,
+        reported: cells.next()?,
     })
 }
 
@@ -113,7 +113,7 @@ fn fault_of(row: &str) -> Option<Want<'_>> {
         room: cells.next()?.parse().ok()?,
         status: cells.next()?,
         taken: cells.next()?,
-        told: cells.next()?,
+        reported: cells.next()?,
     })
 }
 
@@ -179,9 +179,9 @@ fn has_written(alloc: Global, want: Want<'_>, out: &MemSink) -> Result<bool, All
 }
 
 // Whether the notes are the row's.
-fn has_told(alloc: Global, want: Want<'_>, notes: &MemSink) -> Result<bool, AllocError> {
-    let told = cell_of(alloc, want.told)?;
-    Ok(notes.taken() == told.as_slice())
+fn has_reported(alloc: Global, want: Want<'_>, notes: &MemSink) -> Result<bool, AllocError> {
+    let reported = cell_of(alloc, want.reported)?;
+    Ok(notes.taken() == reported.as_slice())
 }
 
 // Whether a run on that report gives what the row says.
@@ -190,7 +190,7 @@ fn is_answered_on(alloc: Global, want: Want<'_>, report: Vec<u8>) -> Result<bool
     let mut out = sink(alloc, want.room, 1, want.write)?;
     let mut notes = sink(alloc, 1000, 1000, want.tell)?;
     let got = ending(alloc, want.words, &mut source, &mut out, &mut notes)?;
-    Ok(got == want.status && has_written(alloc, want, &out)? && has_told(alloc, want, &notes)?)
+    Ok(got == want.status && has_written(alloc, want, &out)? && has_reported(alloc, want, &notes)?)
 }
 
 // Whether a run gives what the row says, if it is one.
@@ -207,7 +207,7 @@ fn is_answered(alloc: Global, want: Option<Want<'_>>) -> Result<bool, AllocError
 struct Shown;
 
 impl Claim for Shown {
-    fn holds(&self, alloc: Global, row: &str) -> Result<bool, Untold> {
+    fn holds(&self, alloc: Global, row: &str) -> Result<bool, Unreported> {
         Ok(is_answered(alloc, view_of(row))?)
     }
 }
@@ -220,12 +220,12 @@ fn views_are_written(rt: HostRuntime) {
 struct Faulty;
 
 impl Claim for Faulty {
-    fn holds(&self, alloc: Global, row: &str) -> Result<bool, Untold> {
+    fn holds(&self, alloc: Global, row: &str) -> Result<bool, Unreported> {
         Ok(is_answered(alloc, fault_of(row))?)
     }
 }
 
 #[test]
-fn faults_are_told(rt: HostRuntime) {
+fn faults_are_reported(rt: HostRuntime) {
     each_claim(&rt, rt.alloc(), FAULTS, &Faulty);
 }

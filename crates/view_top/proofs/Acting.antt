@@ -53,38 +53,38 @@ module _ {S K : Type 0} (left : S → Option (List ℕ)) (faults : S → ℕ) (t
 
 -- ---- what is told before the note
 
-module _ {S E : Type 0} (left : S → Option (List ℕ)) (told : E → Option (List ℕ)) (misses : E → ℕ) (lines : Lines) where
+module _ {S E : Type 0} (left : S → Option (List ℕ)) (reported : E → Option (List ℕ)) (misses : E → ℕ) (lines : Lines) where
   -- a copy that was cut off
-  pub cut_told : (source source' : S) (old new : E) (e : CopyError) (result : Result (Unit {0}) Refusal) → IsErrAnd result (λ r. r ≡ copy_refusal e) → Tells {T = Unit {0}} left told misses lines source source' old new (Err e)
-      → TellsOfCopy left told misses lines source source' old new result
-  cut_told source source' old new e (Ok x) is h = absurd is
-  cut_told source source' old new e (Err r) is h = inl (Err e, h, ap Err is)
+  pub cut_reported : (source source' : S) (old new : E) (e : CopyError) (result : Result (Unit {0}) Refusal) → IsErrAnd result (λ r. r ≡ copy_refusal e) → Tells {T = Unit {0}} left reported misses lines source source' old new (Err e)
+      → TellsOfCopy left reported misses lines source source' old new result
+  cut_reported source source' old new e (Ok x) is h = absurd is
+  cut_reported source source' old new e (Err r) is h = inl (Err e, h, ap Err is)
 
   -- a whole one
-  pub all_told : (source source' : S) (old new : E) (x : Unit {0}) → Tells left told misses lines source source' old new (Ok x) → TellsOfCopy left told misses lines source source' old new (Ok tt)
-  all_told source source' old new x h = inl (Ok tt, h, refl)
+  pub all_reported : (source source' : S) (old new : E) (x : Unit {0}) → Tells left reported misses lines source source' old new (Ok x) → TellsOfCopy left reported misses lines source source' old new (Ok tt)
+  all_reported source source' old new x h = inl (Ok tt, h, refl)
 
   -- nothing was told where memory ran out first
-  silent : (asked : Result JobData Usage) (source : S) (notes : E) → TellsFirst left told misses lines asked source source notes notes (Err refusal.Memory)
+  silent : (asked : Result JobData Usage) (source : S) (notes : E) → TellsFirst left reported misses lines asked source source notes notes (Err refusal.Memory)
   silent (Ok follow) source notes = inr (refl, refl)
   silent (Ok (show v)) source notes = refl
   silent (Err fault) source notes = refl
 
-  unasked : (asked : Result JobData Usage) (source : S) (notes : E) (e : WordsError) → Asks asked (Err e) → TellsFirst left told misses lines asked source source notes notes (Err (words_refusal e))
+  unasked : (asked : Result JobData Usage) (source : S) (notes : E) (e : WordsError) → Asks asked (Err e) → TellsFirst left reported misses lines asked source source notes notes (Err (words_refusal e))
   unasked asked source notes words.Memory h = silent asked source notes
-  unasked asked source notes (words.Usage fault) h = subst (λ (a : Result JobData Usage). TellsFirst left told misses lines a source source notes notes (Err (refusal.Usage fault))) (sym h) refl
+  unasked asked source notes (words.Usage fault) h = subst (λ (a : Result JobData Usage). TellsFirst left reported misses lines a source source notes notes (Err (refusal.Usage fault))) (sym h) refl
 
   -- nor of words that ask for nothing
-  pub no_job_told : (asked : Result JobData Usage) (source : S) (notes : E) (e : WordsError) (result : Result (Unit {0}) Refusal) → IsErrAnd result (λ r. r ≡ words_refusal e) → Asks asked (Err e)
-      → TellsFirst left told misses lines asked source source notes notes result
-  no_job_told asked source notes e (Ok x) is h = absurd is
-  no_job_told asked source notes e (Err r) is h = subst (λ (r : Refusal). TellsFirst left told misses lines asked source source notes notes (Err r)) (sym is) (unasked asked source notes e h)
+  pub no_job_reported : (asked : Result JobData Usage) (source : S) (notes : E) (e : WordsError) (result : Result (Unit {0}) Refusal) → IsErrAnd result (λ r. r ≡ words_refusal e) → Asks asked (Err e)
+      → TellsFirst left reported misses lines asked source source notes notes result
+  no_job_reported asked source notes e (Ok x) is h = absurd is
+  no_job_reported asked source notes e (Err r) is h = subst (λ (r : Refusal). TellsFirst left reported misses lines asked source source notes notes (Err r)) (sym is) (unasked asked source notes e h)
 
   -- nor of a report that is shown
-  pub show_told : (asked : Result JobData Usage) (v : ViewData) (source source' : S) (notes : E) (result : Result (Unit {0}) Refusal) → asked ≡ Ok (show v) → TellsFirst left told misses lines asked source source' notes notes result
-  show_told asked v source source' notes result is = subst (λ (a : Result JobData Usage). TellsFirst left told misses lines a source source' notes notes result) (sym is) refl
+  pub show_reported : (asked : Result JobData Usage) (v : ViewData) (source source' : S) (notes : E) (result : Result (Unit {0}) Refusal) → asked ≡ Ok (show v) → TellsFirst left reported misses lines asked source source' notes notes result
+  show_reported asked v source source' notes result is = subst (λ (a : Result JobData Usage). TellsFirst left reported misses lines a source source' notes notes result) (sym is) refl
 
   -- of one that is copied, what is told of the copy
-  pub follow_told : (asked : Result JobData Usage) (source source' : S) (old new : E) (result : Result (Unit {0}) Refusal) → asked ≡ Ok follow → TellsOfCopy left told misses lines source source' old new result
-      → TellsFirst left told misses lines asked source source' old new result
-  follow_told asked source source' old new result is h = subst (λ (a : Result JobData Usage). TellsFirst left told misses lines a source source' old new result) (sym is) h
+  pub follow_reported : (asked : Result JobData Usage) (source source' : S) (old new : E) (result : Result (Unit {0}) Refusal) → asked ≡ Ok follow → TellsOfCopy left reported misses lines source source' old new result
+      → TellsFirst left reported misses lines asked source source' old new result
+  follow_reported asked source source' old new result is h = subst (λ (a : Result JobData Usage). TellsFirst left reported misses lines a source source' old new result) (sym is) h

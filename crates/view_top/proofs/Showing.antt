@@ -5,9 +5,9 @@ use Rattle.std.specs.Io.KnownBytes.{Consumes, IsAtEnd}
 use Rattle.lift_base.specs.Outside.{Wrote}
 use Rattle.cert_text.specs.Head.{HeadData}
 use Rattle.cert_check.specs.Answer.{Answers}
-use Rattle.line_text.specs.Met.{WasRead}
+use Rattle.line_text.specs.Found.{WasRead}
 use Rattle.cert_check.specs.Source.{file_limit}
-use Rattle.cert_check.specs.Shown.{IsToldOfFile}
+use Rattle.cert_check.specs.Shown.{IsReportedOfFile}
 use Rattle.cert_check.specs.declared.error.CheckError.{CheckError}
 use Rattle.cert_check.specs.declared.error.CheckError.TheVariants as check
 use Rattle.view_map.specs.Parts.{MapData}
@@ -66,22 +66,22 @@ was P Q old new f h = record { bytes = h.bytes; consumed = h.consumed; finished 
 module _ {S : Type 0} (left : S → Option (List ℕ)) (faults : S → ℕ) (source source' : S) where
   -- a report that was read to its end, and isn't sound
   unsound : (bytes : List ℕ) → Consumes (left source) (left source') bytes → IsAtEnd (left source') → length bytes ≤ file_limit
-      → (e : CheckError) → (e ≢ check.Memory → Answers bytes (Err e)) → IsToldOfFile e → StopsReading left faults source source' (check_refusal e)
-  unsound bytes took ended small check.Fault h told = absurd told
-  unsound bytes took ended small check.TooLong h told = absurd told
-  unsound bytes took ended small check.Memory h told = tt
-  unsound bytes took ended small (check.Text e) h told = record { bytes = bytes; consumed = took; finished = ended; small = small; has = h (λ is. absurd cc) }
-  unsound bytes took ended small (check.Rows e) h told = record { bytes = bytes; consumed = took; finished = ended; small = small; has = h (λ is. absurd cc) }
-  unsound bytes took ended small (check.Missed node miss) h told = record { bytes = bytes; consumed = took; finished = ended; small = small; has = h (λ is. absurd cc) }
-  unsound bytes took ended small (check.Depth node) h told = record { bytes = bytes; consumed = took; finished = ended; small = small; has = h (λ is. absurd cc) }
-  unsound bytes took ended small (check.Axis node) h told = record { bytes = bytes; consumed = took; finished = ended; small = small; has = h (λ is. absurd cc) }
-  unsound bytes took ended small check.Rest h told = record { bytes = bytes; consumed = took; finished = ended; small = small; has = h (λ is. absurd cc) }
+      → (e : CheckError) → (e ≢ check.Memory → Answers bytes (Err e)) → IsReportedOfFile e → StopsReading left faults source source' (check_refusal e)
+  unsound bytes took ended small check.Fault h reported = absurd reported
+  unsound bytes took ended small check.TooLong h reported = absurd reported
+  unsound bytes took ended small check.Memory h reported = tt
+  unsound bytes took ended small (check.Text e) h reported = record { bytes = bytes; consumed = took; finished = ended; small = small; has = h (λ is. absurd cc) }
+  unsound bytes took ended small (check.Rows e) h reported = record { bytes = bytes; consumed = took; finished = ended; small = small; has = h (λ is. absurd cc) }
+  unsound bytes took ended small (check.Missed node miss) h reported = record { bytes = bytes; consumed = took; finished = ended; small = small; has = h (λ is. absurd cc) }
+  unsound bytes took ended small (check.Depth node) h reported = record { bytes = bytes; consumed = took; finished = ended; small = small; has = h (λ is. absurd cc) }
+  unsound bytes took ended small (check.Axis node) h reported = record { bytes = bytes; consumed = took; finished = ended; small = small; has = h (λ is. absurd cc) }
+  unsound bytes took ended small check.Rest h reported = record { bytes = bytes; consumed = took; finished = ended; small = small; has = h (λ is. absurd cc) }
 
   pub refused : (bytes : List ℕ) → Consumes (left source) (left source') bytes → IsAtEnd (left source') → length bytes ≤ file_limit
-      → (e : CheckError) (result : Result MapData Refusal) → IsErrAnd result (λ r. r ≡ check_refusal e) → (e ≢ check.Memory → Answers bytes (Err e)) → IsToldOfFile e
+      → (e : CheckError) (result : Result MapData Refusal) → IsErrAnd result (λ r. r ≡ check_refusal e) → (e ≢ check.Memory → Answers bytes (Err e)) → IsReportedOfFile e
       → ReadsMap left faults source source' result
-  refused bytes took ended small e (Ok m) is h told = absurd is
-  refused bytes took ended small e (Err r) is h told = subst (λ (r : Refusal). StopsReading left faults source source' r) (sym is) (unsound bytes took ended small e h told)
+  refused bytes took ended small e (Ok m) is h reported = absurd is
+  refused bytes took ended small e (Err r) is h reported = subst (λ (r : Refusal). StopsReading left faults source source' r) (sym is) (unsound bytes took ended small e h reported)
 
   unread_as : (e : ReadError) → ReadsWhole left source source' file_limit (Err e) → FaultsOnlyBy {T = Vec ℕ Global} faults source source' (Err e) → StopsReading left faults source source' (read_refusal e)
   unread_as why.Fault h f = f.0

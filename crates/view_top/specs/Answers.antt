@@ -64,7 +64,7 @@ IsNoted taken faults old new (Err why) = (end : Written) × Wrote taken faults o
 
 -- a line is at fault, or memory ran out
 abbrev pub RefusesLine : {T : Type 0} → Usage → Result T Refusal → Type 0
-RefusesLine fault (Err (refusal.Usage told)) = told ≡ fault
+RefusesLine fault (Err (refusal.Usage reported)) = reported ≡ fault
 RefusesLine fault (Err refusal.Memory) = ⊤
 RefusesLine fault _ = ⊥
 
@@ -87,20 +87,20 @@ Acts left faults taken counts (Err fault) source source' out out' result = Refus
 
 -- what was told of a copy: its lines of progress, by the bytes that were read; or memory ran out before, and nothing was told
 abbrev pub TellsOfCopy : {S E : Type 0} → (S → Option (List ℕ)) → (E → Option (List ℕ)) → (E → ℕ) → Lines → S → S → E → E → Result (Unit {0}) Refusal → Type 0
-TellsOfCopy left told misses lines source source' notes notes' result =
-    ((copy : Result (Unit {0}) CopyError) × Tells left told misses lines source source' notes notes' copy × (result ≡ copied copy))
+TellsOfCopy left reported misses lines source source' notes notes' result =
+    ((copy : Result (Unit {0}) CopyError) × Tells left reported misses lines source source' notes notes' copy × (result ≡ copied copy))
     ⊎ ((result ≡ Err refusal.Memory) × (notes' ≡ notes))
 
 -- What was told before the note: only the copying of a report tells of its progress.
 abbrev pub TellsFirst : {S E : Type 0} → (S → Option (List ℕ)) → (E → Option (List ℕ)) → (E → ℕ) → Lines → Result JobData Usage → S → S → E → E → Result (Unit {0}) Refusal → Type 0
-TellsFirst left told misses lines (Ok follow) source source' notes notes' result = TellsOfCopy left told misses lines source source' notes notes' result
-TellsFirst left told misses lines _ source source' notes notes' result = notes' ≡ notes
+TellsFirst left reported misses lines (Ok follow) source source' notes notes' result = TellsOfCopy left reported misses lines source source' notes notes' result
+TellsFirst left reported misses lines _ source source' notes notes' result = notes' ≡ notes
 
 -- How a run ends: what the words ask for was done or refused, and the status and the note are those of that answer. Lines of progress may stand before the note.
-pub record Ends {S K E : Type 0} (left : S → Option (List ℕ)) (faults : S → ℕ) (taken : K → Option (List ℕ)) (counts : K → ℕ) (told : E → Option (List ℕ)) (misses : E → ℕ) (lines : Lines) (asked : Result JobData Usage) (source source' : S) (out out' : K) (notes notes' : E) (end : Status) : Type 0 where
+pub record Ends {S K E : Type 0} (left : S → Option (List ℕ)) (faults : S → ℕ) (taken : K → Option (List ℕ)) (counts : K → ℕ) (reported : E → Option (List ℕ)) (misses : E → ℕ) (lines : Lines) (asked : Result JobData Usage) (source source' : S) (out out' : K) (notes notes' : E) (end : Status) : Type 0 where
   pub answer : Result (Unit {0}) Refusal
   pub between : E
   pub acts : Acts left faults taken counts asked source source' out out' answer
   pub status : end ≡ answered answer
-  pub first : TellsFirst left told misses lines asked source source' notes between answer
-  pub noted : IsNoted told misses between notes' answer
+  pub first : TellsFirst left reported misses lines asked source source' notes between answer
+  pub noted : IsNoted reported misses between notes' answer

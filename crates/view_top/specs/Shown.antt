@@ -4,7 +4,7 @@ use Rattle.std.specs.declared.option.Option.{Option}
 use Rattle.std.specs.Io.KnownBytes.{Appends}
 use Rattle.lift_base.specs.Outside.{Rose, TakenHas, AppendsFront}
 use Rattle.cert_check.specs.Answer.{Answers}
-use Rattle.line_text.specs.Met.{WasRead}
+use Rattle.line_text.specs.Found.{WasRead}
 use Rattle.cert_check.specs.Source.{file_limit}
 use Rattle.view_map.specs.Parts.{MapData}
 use Rattle.view_map.specs.Slice.{SliceData}

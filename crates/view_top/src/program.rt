@@ -21,7 +21,7 @@ fn follow_report<S: Source, K: Sink, E: Sink>(
 ) -> Result<(), Refusal>
     ensures follows { Follows S.left S.faults K.taken K.faults
         source.old source.new out.old out.new result }
-    ensures told { TellsOfCopy S.left E.taken E.faults lines
+    ensures reported { TellsOfCopy S.left E.taken E.faults lines
         source.old source.new notes.old notes.new result }
 {
     follow(source, out, notes, lines)?;

@@ -8,13 +8,13 @@ use crate::engine::roots::{Engine, Lanes, Root, find_over};
 use crate::example::lines_of;
 use corner_lift::Lifted;
 use drn_read::read_costs;
-use float_guess::Tolls;
+use float_guess::Rewards;
 use lift_costs::Costs;
 use lift_model::Model;
 use rounded_iter::least_priced;
 use std::alloc::{AllocError, Global};
 use std::string::String;
-use test_cells::{Teller, Untold, count, cut_three, first_word};
+use test_cells::{Teller, Unreported, count, cut_three, first_word};
 
 /// The choices of state 0 and of a state 3, if there is one; the costs of the states 0, 1, 2, the goal being 1, and that
 /// of state 3 with its line; the precision; the cap; and the least priced vector for p from 2/5 to 3/5, or `none`.
@@ -47,22 +47,22 @@ struct Priced {
 impl Engine for Priced {
     type Found = String;
 
-    fn find(&self, alloc: Global, root: Root, lanes: &mut Lanes) -> Result<String, Untold> {
+    fn find(&self, alloc: Global, root: Root, lanes: &mut Lanes) -> Result<String, Unreported> {
         let rows = Lifted::new(root.case, root.links, root.weights);
         if self.cap == 0 {
-            return Err(Untold::Cell);
+            return Err(Unreported::Cell);
         }
-        let tolls = Tolls {
+        let rewards = Rewards {
             costs: &self.costs,
             cap: self.cap,
         };
-        let is_found = least_priced(&rows, &tolls, &mut lanes.numbers, &mut lanes.work);
+        let is_found = least_priced(&rows, &rewards, &mut lanes.numbers, &mut lanes.work);
         shown(alloc, is_found, &lanes.numbers)
     }
 }
 
 /// A vector as it is shown, where one was found.
-fn shown(alloc: Global, is_found: bool, numbers: &[i64]) -> Result<String, Untold> {
+fn shown(alloc: Global, is_found: bool, numbers: &[i64]) -> Result<String, Unreported> {
     if !is_found {
         return Ok(format!(in alloc; "none")?);
     }
@@ -87,18 +87,18 @@ fn text_of(alloc: Global, choices: &str, costs: &str) -> Result<String, AllocErr
 }
 
 /// A model and its costs, as far as the text is short enough to be read.
-fn read(alloc: Global, text: &[u8]) -> Result<(Model, Costs), Untold> {
+fn read(alloc: Global, text: &[u8]) -> Result<(Model, Costs), Unreported> {
     if text.len() >= 1 << 31 {
-        return Err(Untold::Text(0));
+        return Err(Unreported::Text(0));
     }
     match read_costs(alloc, text, b"goal", b"steps") {
         Ok(read) => Ok(read),
-        Err(error) => Err(Untold::Text(error.line)),
+        Err(error) => Err(Unreported::Text(error.line)),
     }
 }
 
 /// What is found for a text and that cap, at that precision.
-fn priced_of(alloc: Global, text: &[u8], w: u32, cap: u32) -> Result<String, Untold>
+fn priced_of(alloc: Global, text: &[u8], w: u32, cap: u32) -> Result<String, Unreported>
     requires low { 1 ≤ w }
     requires high { w ≤ most_precision }
 {
@@ -113,11 +113,11 @@ fn priced_of(alloc: Global, text: &[u8], w: u32, cap: u32) -> Result<String, Unt
 struct ByCost;
 
 impl Teller for ByCost {
-    type Told = String;
+    type Reported = String;
 
-    type Error = Untold;
+    type Error = Unreported;
 
-    fn tell(&self, alloc: Global, asked: &str) -> Result<String, Untold> {
+    fn tell(&self, alloc: Global, asked: &str) -> Result<String, Unreported> {
         let (choices, costs, w, cap) = cut_three(asked);
         let text = lines_of(alloc, &text_of(alloc, choices, costs)?)?;
         priced_of(alloc, &text, count(w).clamp(1, 20), count(cap))

@@ -6,13 +6,13 @@ use crate::example::process_of;
 use lower_cert::{Rate, greatest_reject, greatest_reject_above};
 use std::alloc::Global;
 use std::string::String;
-use test_cells::{Teller, Untold};
+use test_cells::{Teller, Unreported};
 
 /// The region of the tables.
 const REGION: &[u8] = b"2/5<=p<=3/5";
 
 /// The choices of state 0, and those of a state 3; and for p from 2/5 to 3/5 and at precision 4 the greatest
-/// lower vector, its picks, ranks, e and k, and the greatest limit that the initial state's number is above.
+/// lower vector, its choices, ranks, e and k, and the greatest limit that the initial state's number is above.
 ///
 /// A coin that shows heads with 1/4; one with p; one that is thrown again with 1/2, where rounding down from
 /// below stalls at 7; one that is thrown again with p; a loop that is never left, which would hold any number;
@@ -42,7 +42,7 @@ struct Above {
 impl Engine for Above {
     type Found = bool;
 
-    fn find(&self, _alloc: Global, root: Root, lanes: &mut Lanes) -> Result<bool, Untold> {
+    fn find(&self, _alloc: Global, root: Root, lanes: &mut Lanes) -> Result<bool, Unreported> {
         let rate = greatest_reject_above(
             root.case,
             root.links,
@@ -59,7 +59,7 @@ impl Engine for Above {
 }
 
 /// The greatest of the limits from -1 to 16 that the initial state's number is found above.
-fn greatest_limit(alloc: Global, lines: &str) -> Result<i64, Untold> {
+fn greatest_limit(alloc: Global, lines: &str) -> Result<i64, Unreported> {
     let mut greatest = -2;
     for limit in -1..17 {
         if find_text(alloc, lines, REGION, 4, &Above { limit })? {
@@ -75,7 +75,7 @@ struct Greatest;
 impl Engine for Greatest {
     type Found = String;
 
-    fn find(&self, alloc: Global, root: Root, lanes: &mut Lanes) -> Result<String, Untold> {
+    fn find(&self, alloc: Global, root: Root, lanes: &mut Lanes) -> Result<String, Unreported> {
         let rate = greatest_reject(
             root.case,
             root.links,
@@ -91,7 +91,7 @@ impl Engine for Greatest {
 }
 
 /// The same as it is shown.
-fn shown(alloc: Global, lanes: &Lanes, rate: Rate) -> Result<String, Untold> {
+fn shown(alloc: Global, lanes: &Lanes, rate: Rate) -> Result<String, Unreported> {
     let Lanes {
         numbers,
         ranks,
@@ -103,7 +103,7 @@ fn shown(alloc: Global, lanes: &Lanes, rate: Rate) -> Result<String, Untold> {
 }
 
 /// The greatest lower vector and the greatest limit, at precision 4.
-fn both_of(alloc: Global, lines: &str) -> Result<String, Untold> {
+fn both_of(alloc: Global, lines: &str) -> Result<String, Unreported> {
     let limit = greatest_limit(alloc, lines)?;
     let vector = find_text(alloc, lines, REGION, 4, &Greatest)?;
     Ok(format!(in alloc; "{vector}; {limit}")?)
@@ -112,11 +112,11 @@ fn both_of(alloc: Global, lines: &str) -> Result<String, Untold> {
 struct GreatestLower;
 
 impl Teller for GreatestLower {
-    type Told = String;
+    type Reported = String;
 
-    type Error = Untold;
+    type Error = Unreported;
 
-    fn tell(&self, alloc: Global, asked: &str) -> Result<String, Untold> {
+    fn tell(&self, alloc: Global, asked: &str) -> Result<String, Unreported> {
         let text = process_of(alloc, "p", asked)?;
         both_of(alloc, &text)
     }
@@ -146,11 +146,11 @@ action a;3 : 1-1e-17;1 : 1e-17/2;2 : 1e-17/2 / action a;0 : 1-1e-17;1 : 1e-17/2;
 struct SlowCycles;
 
 impl Teller for SlowCycles {
-    type Told = String;
+    type Reported = String;
 
-    type Error = Untold;
+    type Error = Unreported;
 
-    fn tell(&self, alloc: Global, asked: &str) -> Result<String, Untold> {
+    fn tell(&self, alloc: Global, asked: &str) -> Result<String, Unreported> {
         let text = process_of(alloc, "p", asked)?;
         find_text(alloc, &text, REGION, 20, &Greatest)
     }

@@ -6,11 +6,11 @@ ghost use Rattle.corner_lift.specs.Case.{most_precision};
 use crate::cells::each_row;
 use crate::engine::roots::{Engine, Lanes, Root, find_text};
 use crate::example::process_of;
-use float_guess::{Ends, Extreme, Rounding, Rule, Way, guess_part, make_shares_whole};
+use float_guess::{Ends, Extreme, Method, Rounding, Rule, guess_part, make_shares_whole};
 use rounded_iter::least_upper;
 use std::alloc::Global;
 use std::string::String;
-use test_cells::{Teller, Untold, count, cut_two};
+use test_cells::{Teller, Unreported, count, cut_two};
 
 /// The choices of state 0 and of a state 3, if there is one; the way; the precision; and the guesses at or below what
 /// these states are worth, and above it, for p from 2/5 to 3/5, where the least upper vector was found before.
@@ -39,7 +39,7 @@ const FIRST: u32 = 2;
 /// A way to guess, on one side of what the states are worth.
 #[derive(Clone, Copy)]
 struct Guess {
-    way: Way,
+    method: Method,
     rounding: Rounding,
 }
 
@@ -55,7 +55,7 @@ fn upper_rule() -> Rule<'static> {
 impl Engine for Guess {
     type Found = String;
 
-    fn find(&self, alloc: Global, root: Root, lanes: &mut Lanes) -> Result<String, Untold> {
+    fn find(&self, alloc: Global, root: Root, lanes: &mut Lanes) -> Result<String, Unreported> {
         let Root {
             case,
             links,
@@ -76,14 +76,14 @@ impl Engine for Guess {
             noted,
             FIRST,
             states,
-            self.way,
+            self.method,
         );
         shown(alloc, is_done, &lanes.numbers)
     }
 }
 
 /// A guess as it is shown, where there is one.
-fn shown(alloc: Global, is_done: bool, numbers: &[i64]) -> Result<String, Untold> {
+fn shown(alloc: Global, is_done: bool, numbers: &[i64]) -> Result<String, Unreported> {
     if !is_done {
         return Ok(format!(in alloc; "no guess")?);
     }
@@ -91,18 +91,18 @@ fn shown(alloc: Global, is_done: bool, numbers: &[i64]) -> Result<String, Untold
 }
 
 /// The way that a cell names.
-fn way_of(cell: &str) -> Result<Way, Untold> {
+fn method_of(cell: &str) -> Result<Method, Unreported> {
     match cell {
-        "whole" => Ok(Way::Elimination),
-        "once" => Ok(Way::FirstElimination),
-        "moved" => Ok(Way::MovedElimination),
-        "none" => Ok(Way::Nothing),
-        _ => Err(Untold::Cell),
+        "whole" => Ok(Method::Elimination),
+        "once" => Ok(Method::FirstElimination),
+        "moved" => Ok(Method::MovedElimination),
+        "none" => Ok(Method::Nothing),
+        _ => Err(Unreported::Cell),
     }
 }
 
 /// The guess for the process with these choices.
-fn guess_for(alloc: Global, choices: &str, w: u32, guess: Guess) -> Result<String, Untold>
+fn guess_for(alloc: Global, choices: &str, w: u32, guess: Guess) -> Result<String, Unreported>
     requires low { 1 ≤ w }
     requires high { w ≤ most_precision }
 {
@@ -113,23 +113,23 @@ fn guess_for(alloc: Global, choices: &str, w: u32, guess: Guess) -> Result<Strin
 struct Guesses;
 
 impl Teller for Guesses {
-    type Told = String;
+    type Reported = String;
 
-    type Error = Untold;
+    type Error = Unreported;
 
-    fn tell(&self, alloc: Global, asked: &str) -> Result<String, Untold> {
-        let (choices, way, w) = cut_two(asked);
-        let way = way_of(way)?;
+    fn tell(&self, alloc: Global, asked: &str) -> Result<String, Unreported> {
+        let (choices, method, w) = cut_two(asked);
+        let method = method_of(method)?;
         let w = count(w).clamp(1, 20);
         let rounding = Rounding::Down;
-        let below = guess_for(alloc, choices, w, Guess { way, rounding })?;
+        let below = guess_for(alloc, choices, w, Guess { method, rounding })?;
         let rounding = Rounding::Up;
-        let above = guess_for(alloc, choices, w, Guess { way, rounding })?;
+        let above = guess_for(alloc, choices, w, Guess { method, rounding })?;
         Ok(format!(in alloc; "{below}; {above}")?)
     }
 }
 
 #[test]
-fn guesses_in_each_way(rt: HostRuntime) {
+fn guesses_by_each_method(rt: HostRuntime) {
     each_row(&rt, rt.alloc(), GUESSES, &Guesses);
 }

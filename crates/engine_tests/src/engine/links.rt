@@ -9,7 +9,7 @@ use lift_model::{Links, Model};
 use std::alloc::{AllocError, Global};
 use std::fmt::Write;
 use std::string::String;
-use test_cells::{Teller, Untold, count};
+use test_cells::{Teller, Unreported, count};
 
 /// A process with rows that have the same polynomials, one that differs in a coefficient of each entry,
 /// states with a self loop, and one that nothing leads to.
@@ -20,7 +20,7 @@ state 4;action a;0 : 1";
 
 /// For each state the states before it, their positions and its own, whether all of them stand behind it,
 /// the numbers of its rows, where their weights begin, and their targets.
-const TOLD: &str = "\
+const REPORTED: &str = "\
 0 | [2, 4] [2, 4] 3 false; 0 0 [1, 2] 1 0 [2, 3]
 1 | [0, 1, 2] [3, 0, 2] 0 true; 2 4 [1]
 2 | [0, 2] [3, 2] 2 true; 3 5 [1, 2] 4 0 [0, 3] 5 9 [1, 2]
@@ -28,19 +28,19 @@ const TOLD: &str = "\
 4 | [] [] 4 true; 7 4 [0]";
 
 /// Tells what the links do of a state.
-fn tell_state(told: &mut String, links: &Links, s: u32) -> Result<(), AllocError>
+fn tell_state(reported: &mut String, links: &Links, s: u32) -> Result<(), AllocError>
     requires { s < state_count links.now }
 {
     let before = links.before(s);
     let positions = links.positions_before(s);
     let position = links.position(s);
     let lone = links.is_lone(s);
-    write!(told, "{before:?} {positions:?} {position} {lone};")
+    write!(reported, "{before:?} {positions:?} {position} {lone};")
 }
 
 /// Tells what the links do of a row.
 fn tell_row(
-    told: &mut String,
+    reported: &mut String,
     model: &Model,
     links: &Links,
     s: u32,
@@ -52,52 +52,52 @@ fn tell_row(
     let number = links.row_place(s, a);
     let weights = links.weight_place(s, a);
     let targets = links.targets(links.place(s, a));
-    write!(told, " {number} {weights} {targets:?}")
+    write!(reported, " {number} {weights} {targets:?}")
 }
 
 /// Tells what the links do of a state, which has as many places as choices, and of its rows.
-fn tell_all(told: &mut String, model: &Model, links: &Links, s: u32) -> Result<(), Untold>
+fn tell_all(reported: &mut String, model: &Model, links: &Links, s: u32) -> Result<(), Unreported>
     requires { AreLinks model.now links.now }
 {
     if s >= model.states() || links.places(s).len() != model.choices(s) as usize {
-        return Err(Untold::Cell);
+        return Err(Unreported::Cell);
     }
-    tell_state(told, links, s)?;
+    tell_state(reported, links, s)?;
     for a in 0..model.choices(s) {
-        tell_row(told, model, links, s, a)?;
+        tell_row(reported, model, links, s, a)?;
     }
     Ok(())
 }
 
 /// The same as a text.
-fn told_by(alloc: Global, model: &Model, links: &Links, s: u32) -> Result<String, Untold>
+fn reported_by(alloc: Global, model: &Model, links: &Links, s: u32) -> Result<String, Unreported>
     requires { AreLinks model.now links.now }
 {
-    let mut told = String::new(alloc);
-    tell_all(&mut told, model, links, s)?;
-    Ok(told)
+    let mut reported = String::new(alloc);
+    tell_all(&mut reported, model, links, s)?;
+    Ok(reported)
 }
 
 /// The same by links that are built.
-fn told_of(alloc: Global, model: &Model, s: u32) -> Result<String, Untold> {
+fn reported_of(alloc: Global, model: &Model, s: u32) -> Result<String, Unreported> {
     let links = Links::build(alloc, model)?;
-    let told = told_by(alloc, model, &links, s);
+    let reported = reported_by(alloc, model, &links, s);
     drop(links);
-    told
+    reported
 }
 
 struct Linked;
 
 impl Teller for Linked {
-    type Told = String;
+    type Reported = String;
 
-    type Error = Untold;
+    type Error = Unreported;
 
-    fn tell(&self, alloc: Global, asked: &str) -> Result<String, Untold> {
+    fn tell(&self, alloc: Global, asked: &str) -> Result<String, Unreported> {
         let model = model_of(alloc, LINKED)?;
-        let told = told_of(alloc, &model, count(asked));
+        let reported = reported_of(alloc, &model, count(asked));
         drop(model);
-        told
+        reported
     }
 }
 
@@ -109,7 +109,7 @@ fn are_whole(links: &Links) -> bool {
 }
 
 /// The same for a model.
-fn builds_for(alloc: Global, model: &Model) -> Result<bool, Untold> {
+fn builds_for(alloc: Global, model: &Model) -> Result<bool, Unreported> {
     let links = Links::build(alloc, model)?;
     let are_whole = are_whole(&links);
     drop(links);
@@ -117,7 +117,7 @@ fn builds_for(alloc: Global, model: &Model) -> Result<bool, Untold> {
 }
 
 /// The same for the model of the text.
-fn builds_whole(alloc: Global) -> Result<bool, Untold> {
+fn builds_whole(alloc: Global) -> Result<bool, Unreported> {
     let model = model_of(alloc, LINKED)?;
     let answer = builds_for(alloc, &model);
     drop(model);
@@ -127,5 +127,5 @@ fn builds_whole(alloc: Global) -> Result<bool, Untold> {
 #[test]
 fn links_states_and_rows(rt: HostRuntime) {
     assert!(rt; matches!(builds_whole(rt.alloc()), Ok(true)));
-    each_row(&rt, rt.alloc(), TOLD, &Linked);
+    each_row(&rt, rt.alloc(), REPORTED, &Linked);
 }

@@ -13,7 +13,7 @@ use corner_lift::Case;
 use lift_model::{Links, Model};
 use std::alloc::{AllocError, Global};
 use test_cases::{Asker, Scope, ask_over};
-use test_cells::Untold;
+use test_cells::Unreported;
 
 /// A case with what is looked up of its model, and the table of its root.
 #[derive(Clone, Copy)]
@@ -39,7 +39,7 @@ pub(crate) trait Engine {
     type Found;
 
     /// What is found, in lanes that are lent.
-    fn find(&self, alloc: Global, root: Root, lanes: &mut Lanes) -> Result<Self::Found, Untold>
+    fn find(&self, alloc: Global, root: Root, lanes: &mut Lanes) -> Result<Self::Found, Unreported>
         requires links { AreLinks root.case.now.model root.links.now }
         requires table { IsTable root.case.now root.links.now (spans_of (sides_of root.case.now.root)) root.weights.now }
         requires lanes { AreLanes (length root.case.now.model.states) (row_count root.case.now.model)
@@ -88,7 +88,7 @@ fn find_in_lanes<E: Engine>(
     root: Root,
     engine: &E,
     lanes: &mut Lanes,
-) -> Result<E::Found, Untold>
+) -> Result<E::Found, Unreported>
     requires links { AreLinks root.case.now.model root.links.now }
     requires table { IsTable root.case.now root.links.now (spans_of (sides_of root.case.now.root)) root.weights.now }
 {
@@ -98,7 +98,7 @@ fn find_in_lanes<E: Engine>(
 }
 
 /// What is found in lanes that are made.
-fn find_on_root<E: Engine>(alloc: Global, root: Root, engine: &E) -> Result<E::Found, Untold>
+fn find_on_root<E: Engine>(alloc: Global, root: Root, engine: &E) -> Result<E::Found, Unreported>
     requires links { AreLinks root.case.now.model root.links.now }
     requires table { IsTable root.case.now root.links.now (spans_of (sides_of root.case.now.root)) root.weights.now }
 {
@@ -114,7 +114,7 @@ fn find_by_links<E: Engine>(
     case: &Case,
     links: &Links,
     engine: &E,
-) -> Result<E::Found, Untold>
+) -> Result<E::Found, Unreported>
     requires { AreLinks case.now.model links.now }
 {
     let weights = table_of(alloc, case, links)?;
@@ -133,9 +133,9 @@ struct OnRoot<'e, E> {
 }
 
 impl<E: Engine> Asker for OnRoot<'_, E> {
-    type Told = E::Found;
+    type Reported = E::Found;
 
-    fn ask(&self, alloc: Global, case: &Case) -> Result<E::Found, Untold> {
+    fn ask(&self, alloc: Global, case: &Case) -> Result<E::Found, Unreported> {
         let links = Links::build(alloc, case.model())?;
         let found = find_by_links(alloc, case, &links, self.engine);
         drop(links);
@@ -150,7 +150,7 @@ pub(crate) fn find_over<E: Engine>(
     region: &[u8],
     w: u32,
     engine: &E,
-) -> Result<E::Found, Untold>
+) -> Result<E::Found, Unreported>
     requires low { 1 ≤ w }
     requires high { w ≤ most_precision }
 {
@@ -169,7 +169,7 @@ pub(crate) fn find_text<E: Engine>(
     region: &[u8],
     w: u32,
     engine: &E,
-) -> Result<E::Found, Untold>
+) -> Result<E::Found, Unreported>
     requires low { 1 ≤ w }
     requires high { w ≤ most_precision }
 {

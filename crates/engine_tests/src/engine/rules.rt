@@ -14,7 +14,7 @@ use rounded_iter::least_bound;
 use std::alloc::{AllocError, Global};
 use std::fmt::Write;
 use std::string::String;
-use test_cells::{Teller, Untold, count, cut_three, signed};
+use test_cells::{Teller, Unreported, count, cut_three, signed};
 
 /// The choices of state 0 and of a state 3, if there is one; the ranks, `-` where a state has none; the precision and
 /// the limit; and four least bounds for p from 2/5 to 3/5, or `above` where the initial state's number is above the
@@ -64,7 +64,7 @@ action a;3 : 1-1e-17;1 : 1e-17*p;2 : 1e-17*(1-p) / action a;0 : 1-1e-17;1 : 1e-1
 
 /// Tells the least bound by a rule behind those that were told, or that each is above the limit.
 fn tell_bound(
-    told: &mut String,
+    reported: &mut String,
     rows: &Lifted,
     rule: Rule,
     limit: i64,
@@ -75,13 +75,13 @@ fn tell_bound(
     ensures numbers { length lanes.new.numbers.items ≡ length lanes.old.numbers.items }
     ensures work { length lanes.new.work.items ≡ length lanes.old.work.items }
 {
-    if !told.is_empty() {
-        told.push_str("; ")?;
+    if !reported.is_empty() {
+        reported.push_str("; ")?;
     }
     if least_bound(rows, rule, limit, &mut lanes.numbers, &mut lanes.work) {
-        write!(told, "{:?}", lanes.numbers)
+        write!(reported, "{:?}", lanes.numbers)
     } else {
-        write!(told, "above")
+        write!(reported, "above")
     }
 }
 
@@ -112,7 +112,7 @@ struct Bounds {
 
 /// Tells the least bound by each of the rules.
 fn tell_bounds(
-    told: &mut String,
+    reported: &mut String,
     rows: &Lifted,
     bounds: &Bounds,
     lanes: &mut Lanes,
@@ -122,22 +122,22 @@ fn tell_bounds(
 {
     let (ranks, limit) = (&bounds.ranks, bounds.limit);
     let every = by_goals(Extreme::Greatest, Extreme::Greatest);
-    tell_bound(told, rows, every, limit, lanes)?;
+    tell_bound(reported, rows, every, limit, lanes)?;
     let value = by_goals(Extreme::Greatest, Extreme::Least);
-    tell_bound(told, rows, value, limit, lanes)?;
+    tell_bound(reported, rows, value, limit, lanes)?;
     let some = by_goals(Extreme::Least, Extreme::Greatest);
-    tell_bound(told, rows, some, limit, lanes)?;
-    tell_bound(told, rows, by_ranks(ranks), limit, lanes)
+    tell_bound(reported, rows, some, limit, lanes)?;
+    tell_bound(reported, rows, by_ranks(ranks), limit, lanes)
 }
 
 impl Engine for Bounds {
     type Found = String;
 
-    fn find(&self, alloc: Global, root: Root, lanes: &mut Lanes) -> Result<String, Untold> {
+    fn find(&self, alloc: Global, root: Root, lanes: &mut Lanes) -> Result<String, Unreported> {
         let rows = Lifted::new(root.case, root.links, root.weights);
-        let mut told = String::new(alloc);
-        tell_bounds(&mut told, &rows, self, lanes)?;
-        Ok(told)
+        let mut reported = String::new(alloc);
+        tell_bounds(&mut reported, &rows, self, lanes)?;
+        Ok(reported)
     }
 }
 
@@ -151,7 +151,7 @@ fn ranks_of(alloc: Global, cell: &str) -> Result<Vec<u32>, AllocError> {
 }
 
 /// The bounds of a process with these choices.
-fn bounds_for(alloc: Global, choices: &str, w: u32, bounds: &Bounds) -> Result<String, Untold>
+fn bounds_for(alloc: Global, choices: &str, w: u32, bounds: &Bounds) -> Result<String, Unreported>
     requires low { 1 ≤ w }
     requires high { w ≤ most_precision }
 {
@@ -162,11 +162,11 @@ fn bounds_for(alloc: Global, choices: &str, w: u32, bounds: &Bounds) -> Result<S
 struct ByRule;
 
 impl Teller for ByRule {
-    type Told = String;
+    type Reported = String;
 
-    type Error = Untold;
+    type Error = Unreported;
 
-    fn tell(&self, alloc: Global, asked: &str) -> Result<String, Untold> {
+    fn tell(&self, alloc: Global, asked: &str) -> Result<String, Unreported> {
         let (choices, ranks, w, limit) = cut_three(asked);
         let bounds = Bounds {
             ranks: ranks_of(alloc, ranks)?,

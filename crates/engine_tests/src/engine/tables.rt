@@ -16,7 +16,7 @@ use lift_model::{OnlyRow, PairRow};
 use std::alloc::{AllocError, Global};
 use std::fmt::Write;
 use std::string::String;
-use test_cells::{Teller, Untold, cut};
+use test_cells::{Teller, Unreported, cut};
 
 /// A row of state 0 with both parameters, and a region; how many weights the table has; and of that row
 /// the whole, what the numbers 0, 16 and 0 sum to at the first and at the last corner, the least and the
@@ -120,27 +120,27 @@ fn bounds_of(rows: &Lifted, vec: &[i64]) -> [bool; 4]
 type Sums = (Option<LaneSum>, Option<LaneSum>, Option<LaneSum>);
 
 /// Tells a sum of a row with its whole, and what both were divided by.
-fn tell_sum(told: &mut String, row: Option<LaneSum>, behind: &str) -> Result<(), AllocError> {
+fn tell_sum(reported: &mut String, row: Option<LaneSum>, behind: &str) -> Result<(), AllocError> {
     match row {
         Some(row) => write!(
-            told,
+            reported,
             "{} of {} by {}{behind}",
             row.sum, row.whole, row.scale
         ),
-        None => write!(told, "-{behind}"),
+        None => write!(reported, "-{behind}"),
     }
 }
 
 /// Tells all of them.
-fn tell_sums(told: &mut String, sums: Sums) -> Result<(), AllocError> {
+fn tell_sums(reported: &mut String, sums: Sums) -> Result<(), AllocError> {
     let (least, greatest, into) = sums;
-    tell_sum(told, least, ", ")?;
-    tell_sum(told, greatest, ", ")?;
-    tell_sum(told, into, "; ")
+    tell_sum(reported, least, ", ")?;
+    tell_sum(reported, greatest, ", ")?;
+    tell_sum(reported, into, "; ")
 }
 
 /// What is looked up of the row of state 0.
-fn row_told(rows: &Lifted, vec: &[i64]) -> Sums
+fn row_reported(rows: &Lifted, vec: &[i64]) -> Sums
     requires lifted { IsLiftedTo rows.now (spans_of (sides_of rows.now.case.root)) }
     requires row { HasChoice rows.now.case.model 0 0 }
     requires numbers { AreNumbers rows.now.case vec.now }
@@ -153,7 +153,7 @@ fn row_told(rows: &Lifted, vec: &[i64]) -> Sums
 }
 
 /// What is looked up of the only row of state 0, which has two entries.
-fn pair_told(rows: &Lifted, row: PairRow, vec: &[i64]) -> Sums
+fn pair_reported(rows: &Lifted, row: PairRow, vec: &[i64]) -> Sums
     requires lifted { IsLiftedTo rows.now (spans_of (sides_of rows.now.case.root)) }
     requires row { HasChoice rows.now.case.model 0 0 }
     requires numbers { AreNumbers rows.now.case vec.now }
@@ -167,19 +167,19 @@ fn pair_told(rows: &Lifted, row: PairRow, vec: &[i64]) -> Sums
 }
 
 /// Tells what is looked up of the only row of state 0, as far as it is short and leads elsewhere.
-fn tell_only(told: &mut String, rows: &Lifted, vec: &[i64]) -> Result<(), AllocError>
+fn tell_only(reported: &mut String, rows: &Lifted, vec: &[i64]) -> Result<(), AllocError>
     requires lifted { IsLiftedTo rows.now (spans_of (sides_of rows.now.case.root)) }
     requires row { HasChoice rows.now.case.model 0 0 }
     requires numbers { AreNumbers rows.now.case vec.now }
     requires states { length rows.now.case.model.states ≡ 3 }
 {
     match rows.only_row(0) {
-        OnlyRow::Single(target) => write!(told, "single {target}; "),
+        OnlyRow::Single(target) => write!(reported, "single {target}; "),
         OnlyRow::Pair(row) => {
-            write!(told, "pair {} {}: ", row.first, row.second)?;
-            tell_sums(told, pair_told(rows, row, vec))
+            write!(reported, "pair {} {}: ", row.first, row.second)?;
+            tell_sums(reported, pair_reported(rows, row, vec))
         }
-        OnlyRow::Other => write!(told, "other; "),
+        OnlyRow::Other => write!(reported, "other; "),
     }
 }
 
@@ -199,15 +199,15 @@ fn leaving(rows: &Lifted, vec: &[i64]) -> Option<(i64, i64)>
 }
 
 /// Tells what a row weighs into other states.
-fn tell_leaving(told: &mut String, leaving: Option<(i64, i64)>) -> Result<(), AllocError> {
+fn tell_leaving(reported: &mut String, leaving: Option<(i64, i64)>) -> Result<(), AllocError> {
     match leaving {
-        Some((sum, whole)) => write!(told, "{sum} of {whole}"),
-        None => write!(told, "-"),
+        Some((sum, whole)) => write!(reported, "{sum} of {whole}"),
+        None => write!(reported, "-"),
     }
 }
 
 /// Tells the numbers and the bounds of the row of state 0, and what is looked up of it.
-fn tell_row(told: &mut String, rows: &Lifted, vec: &[i64]) -> Result<(), AllocError>
+fn tell_row(reported: &mut String, rows: &Lifted, vec: &[i64]) -> Result<(), AllocError>
     requires lifted { IsLiftedTo rows.now (spans_of (sides_of rows.now.case.root)) }
     requires row { HasChoice rows.now.case.model 0 0 }
     requires numbers { AreNumbers rows.now.case vec.now }
@@ -217,34 +217,34 @@ fn tell_row(told: &mut String, rows: &Lifted, vec: &[i64]) -> Result<(), AllocEr
 {
     let numbers = numbers_of(rows, vec);
     let bounds = bounds_of(rows, vec);
-    write!(told, "{numbers:?}; {bounds:?}; ")?;
-    tell_sums(told, row_told(rows, vec))?;
-    tell_only(told, rows, vec)
+    write!(reported, "{numbers:?}; {bounds:?}; ")?;
+    tell_sums(reported, row_reported(rows, vec))?;
+    tell_only(reported, rows, vec)
 }
 
 /// Tells the whole of the row of state 0, by the table of the case's root.
-fn tell_table(told: &mut String, rows: &Lifted) -> Result<(), AllocError>
+fn tell_table(reported: &mut String, rows: &Lifted) -> Result<(), AllocError>
     requires lifted { IsLiftedTo rows.now (spans_of (sides_of rows.now.case.root)) }
     requires row { HasChoice rows.now.case.model 0 0 }
     requires states { length rows.now.case.model.states ≡ 3 }
     requires corners { corner_count rows.now.case 0 0 ≡ 4 }
     requires precision { rows.now.case.w ≡ 4 }
 {
-    tell_row(told, rows, &[0, 16, 0])?;
-    tell_leaving(told, leaving(rows, &[5, 16, 0]))
+    tell_row(reported, rows, &[0, 16, 0])?;
+    tell_leaving(reported, leaving(rows, &[5, 16, 0]))
 }
 
 /// The same as a text.
-fn table_told(alloc: Global, rows: &Lifted) -> Result<String, Untold>
+fn table_reported(alloc: Global, rows: &Lifted) -> Result<String, Unreported>
     requires lifted { IsLiftedTo rows.now (spans_of (sides_of rows.now.case.root)) }
     requires row { HasChoice rows.now.case.model 0 0 }
     requires states { length rows.now.case.model.states ≡ 3 }
     requires corners { corner_count rows.now.case 0 0 ≡ 4 }
     requires precision { rows.now.case.w ≡ 4 }
 {
-    let mut told = String::new(alloc);
-    tell_table(&mut told, rows)?;
-    Ok(told)
+    let mut reported = String::new(alloc);
+    tell_table(&mut reported, rows)?;
+    Ok(reported)
 }
 
 /// The same where the case has three states, and one row of both parameters at state 0.
@@ -253,27 +253,27 @@ struct RowOfBoth;
 impl Engine for RowOfBoth {
     type Found = String;
 
-    fn find(&self, alloc: Global, root: Root, _lanes: &mut Lanes) -> Result<String, Untold> {
+    fn find(&self, alloc: Global, root: Root, _lanes: &mut Lanes) -> Result<String, Unreported> {
         rows_at_corners();
         let case = root.case;
         if case.w() != 4 || case.model().states() != 3 || case.model().choices(0) != 1 {
-            return Err(Untold::Cell);
+            return Err(Unreported::Cell);
         }
         if case.model().row(0, 0).support().count_ones() != 2 {
-            return Err(Untold::Cell);
+            return Err(Unreported::Cell);
         }
-        table_told(alloc, &Lifted::new(case, root.links, root.weights))
+        table_reported(alloc, &Lifted::new(case, root.links, root.weights))
     }
 }
 
 struct Tables;
 
 impl Teller for Tables {
-    type Told = String;
+    type Reported = String;
 
-    type Error = Untold;
+    type Error = Unreported;
 
-    fn tell(&self, alloc: Global, asked: &str) -> Result<String, Untold> {
+    fn tell(&self, alloc: Global, asked: &str) -> Result<String, Unreported> {
         let (row, region) = cut(asked);
         let text = chain_of(alloc, row)?;
         find_text(alloc, &text, region.as_bytes(), 4, &RowOfBoth)

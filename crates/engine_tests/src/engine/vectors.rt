@@ -6,7 +6,7 @@ use crate::example::process_of;
 use rounded_iter::{least_upper, least_value};
 use std::alloc::Global;
 use std::string::String;
-use test_cells::{Teller, Untold};
+use test_cells::{Teller, Unreported};
 
 /// The region of the tables.
 const REGION: &[u8] = b"2/5<=p<=3/5,1/5<=q<=2/5";
@@ -36,7 +36,7 @@ struct Least;
 impl Engine for Least {
     type Found = String;
 
-    fn find(&self, alloc: Global, root: Root, lanes: &mut Lanes) -> Result<String, Untold> {
+    fn find(&self, alloc: Global, root: Root, lanes: &mut Lanes) -> Result<String, Unreported> {
         let Root {
             case,
             links,
@@ -49,7 +49,7 @@ impl Engine for Least {
 }
 
 /// Both vectors as they are shown.
-fn shown(alloc: Global, upper: &[i64], value: &[i64]) -> Result<String, Untold> {
+fn shown(alloc: Global, upper: &[i64], value: &[i64]) -> Result<String, Unreported> {
     Ok(format!(in alloc; "{upper:?}; {value:?}")?)
 }
 
@@ -69,11 +69,11 @@ action a;3 : 4095/4096;2 : 1/4096 / action a;0 : 4095/4096;1 : 1/4096 | [524288,
 struct LeastVectors;
 
 impl Teller for LeastVectors {
-    type Told = String;
+    type Reported = String;
 
-    type Error = Untold;
+    type Error = Unreported;
 
-    fn tell(&self, alloc: Global, asked: &str) -> Result<String, Untold> {
+    fn tell(&self, alloc: Global, asked: &str) -> Result<String, Unreported> {
         let text = process_of(alloc, "p q", asked)?;
         find_text(alloc, &text, REGION, 4, &Least)
     }
@@ -87,11 +87,11 @@ fn finds_the_least_vectors(rt: HostRuntime) {
 struct SlowCycles;
 
 impl Teller for SlowCycles {
-    type Told = String;
+    type Reported = String;
 
-    type Error = Untold;
+    type Error = Unreported;
 
-    fn tell(&self, alloc: Global, asked: &str) -> Result<String, Untold> {
+    fn tell(&self, alloc: Global, asked: &str) -> Result<String, Unreported> {
         let text = process_of(alloc, "p q", asked)?;
         find_text(alloc, &text, REGION, 20, &Least)
     }

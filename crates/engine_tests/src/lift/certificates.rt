@@ -11,7 +11,7 @@ use lift_frac::{Frac, read_ratio};
 use std::alloc::Global;
 use std::string::String;
 use test_cases::Asker;
-use test_cells::{Teller, Untold, cut, first_word, signed};
+use test_cells::{Teller, Unreported, cut, first_word, signed};
 
 /// The bound of a fraction from 0 to 1.
 fn bound_by(fraction: Frac) -> Option<Bound> {
@@ -27,8 +27,8 @@ fn bound_by(fraction: Frac) -> Option<Bound> {
 }
 
 /// The bound that a cell writes.
-pub(crate) fn bound_of(cell: &str) -> Result<Bound, Untold> {
-    read_ratio(cell).and_then(bound_by).ok_or(Untold::Cell)
+pub(crate) fn bound_of(cell: &str) -> Result<Bound, Unreported> {
+    read_ratio(cell).and_then(bound_by).ok_or(Unreported::Cell)
 }
 
 /// At precision 4: the value, the bound, and whether the value over 16 is at most the bound.
@@ -42,11 +42,11 @@ const BOUNDS: &str = "\
 struct Bounds;
 
 impl Teller for Bounds {
-    type Told = bool;
+    type Reported = bool;
 
-    type Error = Untold;
+    type Error = Unreported;
 
-    fn tell(&self, _alloc: Global, asked: &str) -> Result<bool, Untold> {
+    fn tell(&self, _alloc: Global, asked: &str) -> Result<bool, Unreported> {
         let (value, bound) = cut(asked);
         Ok(bound_of(bound)?.admits(signed(value), 4))
     }
@@ -75,12 +75,12 @@ const ACCEPT: &str = "\
 6 15 0 | 1/4 | Err(Goal { state: 1, value: 15 })";
 
 /// A number from 0 to 16.
-fn number_of(word: &str) -> Result<i64, Untold>
+fn number_of(word: &str) -> Result<i64, Unreported>
     ensures { IfOk result IsInLane }
 {
     let number = signed(word);
     if number < 0 || number > 16 {
-        return Err(Untold::Cell);
+        return Err(Unreported::Cell);
     }
     Ok(number)
 }
@@ -93,7 +93,7 @@ fn words_of(cell: &str) -> (&str, &str, &str) {
 }
 
 /// The numbers of three states.
-pub(crate) fn numbers_of(cell: &str) -> Result<[i64; 3], Untold>
+pub(crate) fn numbers_of(cell: &str) -> Result<[i64; 3], Unreported>
     ensures { IfOk result (λ x. All IsInLane x) }
 {
     let (first, second, third) = words_of(cell);
@@ -104,7 +104,7 @@ pub(crate) fn numbers_of(cell: &str) -> Result<[i64; 3], Untold>
 }
 
 /// An answer as it is shown.
-pub(crate) fn shown(alloc: Global, answer: Result<(), Miss>) -> Result<String, Untold> {
+pub(crate) fn shown(alloc: Global, answer: Result<(), Miss>) -> Result<String, Unreported> {
     Ok(format!(in alloc; "{answer:?}")?)
 }
 
@@ -118,7 +118,7 @@ fn answer_of(case: &Case, bound: Bound, x: &[i64]) -> Result<(), Miss>
 }
 
 /// The answer to these cells.
-fn answer_told(alloc: Global, case: &Case, asked: &str) -> Result<String, Untold>
+fn answer_reported(alloc: Global, case: &Case, asked: &str) -> Result<String, Unreported>
     requires precision { case.now.w ≡ 4 }
     requires states { length case.now.model.states ≡ 3 }
 {
@@ -134,24 +134,24 @@ struct Acceptance<'a> {
 }
 
 impl Asker for Acceptance<'_> {
-    type Told = String;
+    type Reported = String;
 
-    fn ask(&self, alloc: Global, case: &Case) -> Result<String, Untold> {
+    fn ask(&self, alloc: Global, case: &Case) -> Result<String, Unreported> {
         if case.w() != 4 || case.model().states() != 3 {
-            return Err(Untold::Cell);
+            return Err(Unreported::Cell);
         }
-        answer_told(alloc, case, self.asked)
+        answer_reported(alloc, case, self.asked)
     }
 }
 
 struct Acceptances;
 
 impl Teller for Acceptances {
-    type Told = String;
+    type Reported = String;
 
-    type Error = Untold;
+    type Error = Unreported;
 
-    fn tell(&self, alloc: Global, asked: &str) -> Result<String, Untold> {
+    fn tell(&self, alloc: Global, asked: &str) -> Result<String, Unreported> {
         ask_text(alloc, COIN, b"1/10<=p<=2/5", 4, &Acceptance { asked })
     }
 }

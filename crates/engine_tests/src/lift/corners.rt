@@ -15,7 +15,7 @@ use lift_model::Model;
 use std::alloc::Global;
 use std::string::String;
 use test_cases::{case_of, root_of};
-use test_cells::{Teller, Untold, count};
+use test_cells::{Teller, Unreported, count};
 
 /// p q, p - p q and 1 - p to the states 0, 1 and 2, of which 1 is the goal.
 const PRODUCTS: &str = "@type: DTMC;@parameters;p q;@model;state 0 init;0 : p*q;1 : p-p*q;2 : 1-p;\
@@ -69,7 +69,7 @@ fn weights_of(case: &Case, sides: &[i64]) -> (i128, i128)
 }
 
 /// What the row of state 0 weighs.
-fn weighed(alloc: Global, case: &Case, sides: &[i64], vec: &[i64]) -> Result<String, Untold>
+fn weighed(alloc: Global, case: &Case, sides: &[i64], vec: &[i64]) -> Result<String, Unreported>
     requires sides { AreSidesInside case.now.root sides.now }
     requires numbers { AreNumbers case.now vec.now }
     requires states { length case.now.model.states ≡ 3 }
@@ -85,19 +85,19 @@ fn weighed(alloc: Global, case: &Case, sides: &[i64], vec: &[i64]) -> Result<Str
 }
 
 /// The same on the root of a case, which has to have three states, and one row of both parameters at state 0.
-fn weighed_on(alloc: Global, case: &Case) -> Result<String, Untold> {
+fn weighed_on(alloc: Global, case: &Case) -> Result<String, Unreported> {
     rows_at_corners();
     if case.w() != 4 || case.model().states() != 3 || case.model().choices(0) != 1 {
-        return Err(Untold::Cell);
+        return Err(Unreported::Cell);
     }
     if case.model().row(0, 0).support().count_ones() != 2 {
-        return Err(Untold::Cell);
+        return Err(Unreported::Cell);
     }
     weighed(alloc, case, case.root().sides(), &[0, 16, 0])
 }
 
 /// The same over a region of the parameters at a depth.
-fn weighed_over(alloc: Global, model: &Model, depth: u32) -> Result<String, Untold>
+fn weighed_over(alloc: Global, model: &Model, depth: u32) -> Result<String, Unreported>
     requires { depth ≤ most_halvings }
 {
     let (grid, root) = root_of(alloc, b"1/5<=p<=2/5,3/5<=q<=4/5", model.names(), depth)?;
@@ -108,19 +108,19 @@ fn weighed_over(alloc: Global, model: &Model, depth: u32) -> Result<String, Unto
 struct Weights;
 
 impl Teller for Weights {
-    type Told = String;
+    type Reported = String;
 
-    type Error = Untold;
+    type Error = Unreported;
 
-    fn tell(&self, alloc: Global, asked: &str) -> Result<String, Untold> {
+    fn tell(&self, alloc: Global, asked: &str) -> Result<String, Unreported> {
         let depth = count(asked);
         if depth > 20 {
-            return Err(Untold::Cell);
+            return Err(Unreported::Cell);
         }
         let model = model_of(alloc, PRODUCTS)?;
-        let told = weighed_over(alloc, &model, depth);
+        let reported = weighed_over(alloc, &model, depth);
         drop(model);
-        told
+        reported
     }
 }
 

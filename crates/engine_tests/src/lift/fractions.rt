@@ -5,7 +5,7 @@ use lift_frac::{Frac, FracError, gcd, lcm, literal_len, read_literal};
 use std::alloc::{AllocError, Global};
 use std::cmp::Ordering;
 use std::convert::Infallible;
-use test_cells::{Teller, Untold, cut, cut_two};
+use test_cells::{Teller, Unreported, cut, cut_two};
 
 /// The two parts of a fraction, or why there is none.
 fn shown(alloc: Global, answer: Result<Frac, FracError>) -> Result<String, AllocError> {
@@ -60,7 +60,7 @@ const LITERALS: &str = "\
 struct Literals;
 
 impl Teller for Literals {
-    type Told = String;
+    type Reported = String;
 
     type Error = AllocError;
 
@@ -82,7 +82,7 @@ e-4999 | 1/1
 struct Powers;
 
 impl Teller for Powers {
-    type Told = String;
+    type Reported = String;
 
     type Error = AllocError;
 
@@ -107,7 +107,7 @@ const EXPONENTS: &str = "\
 struct Exponents;
 
 impl Teller for Exponents {
-    type Told = String;
+    type Reported = String;
 
     type Error = AllocError;
 
@@ -158,7 +158,7 @@ fn computed(left: &str, operation: &str, right: &str) -> Result<Frac, FracError>
 struct Operations;
 
 impl Teller for Operations {
-    type Told = String;
+    type Reported = String;
 
     type Error = AllocError;
 
@@ -198,7 +198,7 @@ fn is_zero_its_opposite() -> bool {
 struct Orders;
 
 impl Teller for Orders {
-    type Told = &'static str;
+    type Reported = &'static str;
 
     type Error = FracError;
 
@@ -229,7 +229,7 @@ fn number(cell: &str) -> u128 {
 struct Divisors;
 
 impl Teller for Divisors {
-    type Told = u128;
+    type Reported = u128;
 
     type Error = Infallible;
 
@@ -262,14 +262,14 @@ const LENGTHS: &str = "\
 struct Lengths;
 
 impl Teller for Lengths {
-    type Told = usize;
+    type Reported = usize;
 
-    type Error = Untold;
+    type Error = Unreported;
 
-    fn tell(&self, _alloc: Global, asked: &str) -> Result<usize, Untold> {
+    fn tell(&self, _alloc: Global, asked: &str) -> Result<usize, Unreported> {
         match asked.as_bytes() {
             text @ [b'0'..=b'9', ..] => Ok(literal_len(text)),
-            _ => Err(Untold::Cell),
+            _ => Err(Unreported::Cell),
         }
     }
 }

@@ -45,18 +45,18 @@ fn tell_next(
     lines: &mut Lines,
     source: &mut MemSource,
     last: &str,
-    told: &mut Vec<u8>,
+    reported: &mut Vec<u8>,
 ) -> Result<&'static str, AllocError> {
     match lines.next(source) {
         Ok(Piece::Line { from, to }) => {
-            told.extend_from_slice(&lines.text()[from..to])?;
-            told.push(b'/')?;
+            reported.extend_from_slice(&lines.text()[from..to])?;
+            reported.push(b'/')?;
             Ok("")
         }
         answer => {
             let name = name_of(answer);
             if name != last {
-                told.extend_from_slice(name.as_bytes())?;
+                reported.extend_from_slice(name.as_bytes())?;
             }
             Ok(name)
         }
@@ -67,11 +67,11 @@ fn tell_next(
 fn tell_lines(
     lines: &mut Lines,
     source: &mut MemSource,
-    told: &mut Vec<u8>,
+    reported: &mut Vec<u8>,
 ) -> Result<(), AllocError> {
     let mut last = "";
     for _ in 0..20 {
-        let name = tell_next(lines, source, last, told)?;
+        let name = tell_next(lines, source, last, reported)?;
         if !name.is_empty() && name == last {
             return Ok(());
         }
@@ -81,17 +81,17 @@ fn tell_lines(
 }
 
 /// The lines and answers that come of a source.
-fn told_of(alloc: Global, source: &mut MemSource, limit: u64) -> Result<String, AllocError> {
+fn reported_of(alloc: Global, source: &mut MemSource, limit: u64) -> Result<String, AllocError> {
     let mut lines = Lines::make(alloc, limit.min(99))?;
-    let mut told = Vec::new(alloc);
-    tell_lines(&mut lines, source, &mut told)?;
-    String::from_utf8_lossy(alloc, &told)
+    let mut reported = Vec::new(alloc);
+    tell_lines(&mut lines, source, &mut reported)?;
+    String::from_utf8_lossy(alloc, &reported)
 }
 
 /// A text; how many bytes a call gives; the call that fails, none where it is 0; how many bytes are
 /// allowed; and what comes, with the answer at which it stays. A call that isn't needed isn't made: the
 /// five bytes come in three calls of two, the end in a fourth, and there is no fifth.
-const TOLD: &str = "\
+const REPORTED: &str = "\
 / | 1 | 0 | 99 | /End
  | 1 | 0 | 99 | End
 // | 9 | 0 | 99 | //End
@@ -117,10 +117,10 @@ a/bc | 1 | 0 | 3 | a/TooLong
 a | 1 | 2 | 0 | TooLong
  | 1 | 0 | 0 | End";
 
-struct Told;
+struct Reported;
 
-impl Teller for Told {
-    type Told = String;
+impl Teller for Reported {
+    type Reported = String;
 
     type Error = AllocError;
 
@@ -128,13 +128,13 @@ impl Teller for Told {
         let (text, step, failing, limit) = cut_three(asked);
         let bytes = bytes_of(alloc, text)?;
         let mut source = source_of(alloc, bytes, number(step) as usize, number(failing))?;
-        told_of(alloc, &mut source, number(limit))
+        reported_of(alloc, &mut source, number(limit))
     }
 }
 
 #[test]
 fn gives_lines_and_stays_at_the_last_answer(rt: HostRuntime) {
-    each_row(&rt, rt.alloc(), TOLD, &Told);
+    each_row(&rt, rt.alloc(), REPORTED, &Reported);
 }
 
 /// Adds a line of so many bytes, without its line feed where a dash stands behind the number.
@@ -166,15 +166,15 @@ fn long_bytes(alloc: Global, counts: &str) -> Result<Vec<u8>, AllocError> {
 fn tell_length(
     lines: &mut Lines,
     source: &mut MemSource,
-    told: &mut String,
+    reported: &mut String,
 ) -> Result<bool, AllocError> {
     match lines.next(source) {
         Ok(Piece::Line { from, to }) => {
-            write!(told, "{} ", lines.text()[from..to].len())?;
+            write!(reported, "{} ", lines.text()[from..to].len())?;
             Ok(true)
         }
         answer => {
-            write!(told, "{} {}", name_of(answer), lines.given())?;
+            write!(reported, "{} {}", name_of(answer), lines.given())?;
             Ok(false)
         }
     }
@@ -184,10 +184,10 @@ fn tell_length(
 fn tell_lengths(
     lines: &mut Lines,
     source: &mut MemSource,
-    told: &mut String,
+    reported: &mut String,
 ) -> Result<(), AllocError> {
     for _ in 0..20 {
-        if !tell_length(lines, source, told)? {
+        if !tell_length(lines, source, reported)? {
             return Ok(());
         }
     }
@@ -197,9 +197,9 @@ fn tell_lengths(
 /// The lengths of the lines that come of a source, and the answer behind them.
 fn lengths_of(alloc: Global, source: &mut MemSource) -> Result<String, AllocError> {
     let mut lines = Lines::make(alloc, 1 << 32)?;
-    let mut told = String::new(alloc);
-    tell_lengths(&mut lines, source, &mut told)?;
-    Ok(told)
+    let mut reported = String::new(alloc);
+    tell_lengths(&mut lines, source, &mut reported)?;
+    Ok(reported)
 }
 
 /// The lengths of lines, a dash behind one without line feed; the call that fails, each giving 4096 bytes;
@@ -220,7 +220,7 @@ const LONG: &str = "\
 struct Lengths;
 
 impl Teller for Lengths {
-    type Told = String;
+    type Reported = String;
 
     type Error = AllocError;
 

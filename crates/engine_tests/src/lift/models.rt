@@ -2,10 +2,10 @@
 
 use crate::cells::each_row;
 use crate::example::model_of;
-use lift_model::{Kind, Model, plans_over_one_pick};
+use lift_model::{Kind, Model, plans_over_one_choice};
 use std::alloc::Global;
 use std::string::String;
-use test_cells::{Teller, Untold, count};
+use test_cells::{Teller, Unreported, count};
 
 /// A coin that may be turned: from state 0 to the goal 1 with p or with 1 - p.
 const TURNED: &str = "@type: MDP;@parameters;p;@model;state 0 init;action a;1 : p;2 : 1-p;\
@@ -18,9 +18,9 @@ const STATES: &str = "\
 2 | false, 1";
 
 /// What the model tells of a state.
-fn state_told(alloc: Global, model: &Model, state: u32) -> Result<String, Untold> {
+fn state_reported(alloc: Global, model: &Model, state: u32) -> Result<String, Unreported> {
     if state >= model.states() {
-        return Err(Untold::Cell);
+        return Err(Unreported::Cell);
     }
     let (is_goal, choices) = (model.is_goal(state), model.choices(state));
     Ok(format!(in alloc; "{is_goal}, {choices}")?)
@@ -29,15 +29,15 @@ fn state_told(alloc: Global, model: &Model, state: u32) -> Result<String, Untold
 struct States;
 
 impl Teller for States {
-    type Told = String;
+    type Reported = String;
 
-    type Error = Untold;
+    type Error = Unreported;
 
-    fn tell(&self, alloc: Global, asked: &str) -> Result<String, Untold> {
+    fn tell(&self, alloc: Global, asked: &str) -> Result<String, Unreported> {
         let model = model_of(alloc, TURNED)?;
-        let told = state_told(alloc, &model, count(asked));
+        let reported = state_reported(alloc, &model, count(asked));
         drop(model);
-        told
+        reported
     }
 }
 
@@ -61,7 +61,7 @@ fn has_parts(model: &Model) -> bool {
 }
 
 /// The same of the model and its row.
-fn has_all(alloc: Global) -> Result<bool, Untold> {
+fn has_all(alloc: Global) -> Result<bool, Unreported> {
     let model = model_of(alloc, TURNED)?;
     let has_all = has_parts(&model) && has_row(&model);
     drop(model);
@@ -70,7 +70,7 @@ fn has_all(alloc: Global) -> Result<bool, Untold> {
 
 #[test]
 fn tells_its_parts(rt: HostRuntime) {
-    plans_over_one_pick();
+    plans_over_one_choice();
     assert!(rt; matches!(has_all(rt.alloc()), Ok(true)));
     each_row(&rt, rt.alloc(), STATES, &States);
 }

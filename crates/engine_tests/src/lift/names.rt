@@ -36,7 +36,7 @@ pub(crate) fn names_of(alloc: Global, words: &str) -> Result<Names, AllocError> 
 struct Added;
 
 impl Teller for Added {
-    type Told = bool;
+    type Reported = bool;
 
     type Error = AllocError;
 
@@ -66,7 +66,7 @@ q | None
 struct Found;
 
 impl Teller for Found {
-    type Told = String;
+    type Reported = String;
 
     type Error = AllocError;
 
@@ -93,7 +93,7 @@ fn has_name(names: &Names, place: u32, name: &[u8]) -> bool {
 struct Kept;
 
 impl Teller for Kept {
-    type Told = bool;
+    type Reported = bool;
 
     type Error = AllocError;
 

@@ -10,7 +10,7 @@ use lift_base::{
 };
 use std::alloc::{AllocError, Global};
 use std::string::String;
-use test_cells::{Teller, Untold, cut, number};
+use test_cells::{Teller, Unreported, cut, number};
 
 /// The number of the one call that fails.
 fn calls(alloc: Global, failing: u64) -> Result<Vec<u64>, AllocError> {
@@ -46,7 +46,7 @@ fn shown(alloc: Global, answer: Result<Vec<u8>, ReadError>) -> Result<String, Al
 struct Digits;
 
 impl Teller for Digits {
-    type Told = String;
+    type Reported = String;
 
     type Error = AllocError;
 
@@ -133,13 +133,13 @@ fn written(out: &mut MemSink, words: &[Word]) -> Option<usize> {
 struct WrittenWords;
 
 impl Teller for WrittenWords {
-    type Told = usize;
+    type Reported = usize;
 
-    type Error = Untold;
+    type Error = Unreported;
 
-    fn tell(&self, alloc: Global, asked: &str) -> Result<usize, Untold> {
+    fn tell(&self, alloc: Global, asked: &str) -> Result<usize, Unreported> {
         let mut out = sink(alloc, asked)?;
-        written(&mut out, &WORDS).ok_or(Untold::Cell)
+        written(&mut out, &WORDS).ok_or(Unreported::Cell)
     }
 }
 
@@ -157,13 +157,13 @@ fn gathered(out: &mut MemSink, words: &[Word]) -> Option<usize> {
 struct GatheredWords;
 
 impl Teller for GatheredWords {
-    type Told = usize;
+    type Reported = usize;
 
-    type Error = Untold;
+    type Error = Unreported;
 
-    fn tell(&self, alloc: Global, asked: &str) -> Result<usize, Untold> {
+    fn tell(&self, alloc: Global, asked: &str) -> Result<usize, Unreported> {
         let mut out = sink(alloc, asked)?;
-        gathered(&mut out, &WORDS).ok_or(Untold::Cell)
+        gathered(&mut out, &WORDS).ok_or(Unreported::Cell)
     }
 }
 
@@ -189,14 +189,14 @@ fn pieces_taken(out: &mut MemSink, pieces: &[Word]) -> Option<usize> {
 struct Pieces;
 
 impl Teller for Pieces {
-    type Told = usize;
+    type Reported = usize;
 
-    type Error = Untold;
+    type Error = Unreported;
 
-    fn tell(&self, alloc: Global, asked: &str) -> Result<usize, Untold> {
+    fn tell(&self, alloc: Global, asked: &str) -> Result<usize, Unreported> {
         let mut out = MemSink::new(alloc, 21000, 8192, calls(alloc, number(asked))?)?;
         let pieces = [Word::Text(b"seven, "); 3000];
-        pieces_taken(&mut out, &pieces).ok_or(Untold::Cell)
+        pieces_taken(&mut out, &pieces).ok_or(Unreported::Cell)
     }
 }
 

@@ -132,7 +132,7 @@ fn computed(alloc: Global, name: &str) -> Result<MultiAffine, PolyError> {
 struct Computations;
 
 impl Teller for Computations {
-    type Told = String;
+    type Reported = String;
 
     type Error = AllocError;
 

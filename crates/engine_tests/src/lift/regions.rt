@@ -9,7 +9,7 @@ use lift_grid::{Grid, Marks, Rect, Values, corner_side, read_region};
 use lift_names::Names;
 use std::alloc::{AllocError, Global};
 use std::string::String;
-use test_cells::{Teller, Untold, count, cut_two};
+use test_cells::{Teller, Unreported, count, cut_two};
 
 /// A region of p and q at depth 20, and why it is refused. Each test of a clause stands before the next
 /// one, and before what stands behind the clause. 2199023255552 * 2^20 * 2 is 2^62, and so is
@@ -56,7 +56,7 @@ fn refusal(alloc: Global, text: &[u8], names: &Names) -> &'static str {
 struct Refused;
 
 impl Teller for Refused {
-    type Told = &'static str;
+    type Reported = &'static str;
 
     type Error = AllocError;
 
@@ -86,32 +86,32 @@ a b c d e f g h i j k l m n o p | 0 | 0<=a<=1,0<=b<=1,0<=c<=1,0<=d<=1,0<=e<=1,0<
 [0, 3, 0, 3, 0, 3, 0, 3, 0, 3, 0, 3, 0, 3, 0, 3, 0, 3, 0, 3, 0, 3, 0, 3, 0, 3, 0, 3, 0, 3, 1, 3]";
 
 /// A grid and ends as they are shown.
-fn shown(alloc: Global, grid: Grid, sides: &[i64]) -> Result<String, Untold> {
+fn shown(alloc: Global, grid: Grid, sides: &[i64]) -> Result<String, Unreported> {
     Ok(format!(in alloc; "{}; {sides:?}", grid.d)?)
 }
 
 /// The grid and the ends of a region at a depth.
-fn region_of(alloc: Global, names: &Names, text: &[u8], depth: u32) -> Result<String, Untold>
+fn region_of(alloc: Global, names: &Names, text: &[u8], depth: u32) -> Result<String, Unreported>
     requires { depth ≤ most_halvings }
 {
     match read_region(alloc, text, names, depth) {
         Ok((grid, rect)) if grid.depth == depth => shown(alloc, grid, rect.sides()),
-        _ => Err(Untold::Cell),
+        _ => Err(Unreported::Cell),
     }
 }
 
 struct Read;
 
 impl Teller for Read {
-    type Told = String;
+    type Reported = String;
 
-    type Error = Untold;
+    type Error = Unreported;
 
-    fn tell(&self, alloc: Global, asked: &str) -> Result<String, Untold> {
+    fn tell(&self, alloc: Global, asked: &str) -> Result<String, Unreported> {
         let (words, depth, text) = cut_two(asked);
         let depth = count(depth);
         if depth > 20 {
-            return Err(Untold::Cell);
+            return Err(Unreported::Cell);
         }
         let names = names_of(alloc, words)?;
         region_of(alloc, &names, text.as_bytes(), depth)
@@ -141,14 +141,14 @@ const ENDS: &str = "\
 struct Ends;
 
 impl Teller for Ends {
-    type Told = String;
+    type Reported = String;
 
-    type Error = Untold;
+    type Error = Unreported;
 
-    fn tell(&self, alloc: Global, asked: &str) -> Result<String, Untold> {
+    fn tell(&self, alloc: Global, asked: &str) -> Result<String, Unreported> {
         let corner = count(asked);
         if corner >= 4 {
-            return Err(Untold::Cell);
+            return Err(Unreported::Cell);
         }
         let (first, second) = (end_of_five(corner, 0), end_of_five(corner, 2));
         Ok(format!(in alloc; "{first}; {second}")?)

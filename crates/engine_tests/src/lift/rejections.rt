@@ -13,9 +13,9 @@ use lift_cert::{Bound, Miss, meets_reject};
 use std::alloc::Global;
 use std::string::String;
 use test_cases::Asker;
-use test_cells::{Teller, Untold, count, cut_three};
+use test_cells::{Teller, Unreported, count, cut_three};
 
-/// For p from 3/5 to 9/10 and at precision 4: the numbers, the pick and the rank of state 0, `e`, the
+/// For p from 3/5 to 9/10 and at precision 4: the numbers, the chosen row and the rank of state 0, `e`, the
 /// bound, and the answer. State 1 is the goal, and state 2 has no rank. The weights of state 0 sum to
 /// 10, and at the low corner 6 of them lead to the goal.
 const REJECT: &str = "\
@@ -31,11 +31,11 @@ const REJECT: &str = "\
 8 16 0 | 0 1 | 1 | 1/2 | Err(Limit { left: 16, right: 16 })
 9 16 0 | 0 1 | 1 | 5/8 | Err(Limit { left: 72, right: 80 })";
 
-/// In place of a pick or a rank where a state has none.
+/// In place of a chosen row or a rank where a state has none.
 const NONE: u32 = u32::MAX;
 
 /// The answer on the whole root. State 0 picks its first choice and has rank 1, or has
-/// neither pick nor rank.
+/// neither chosen row nor rank.
 fn answer_of(case: &Case, bound: Bound, y: &[i64], is_ranked: bool, e: u32) -> Result<(), Miss>
     requires precision { case.now.w ≡ 4 }
     requires states { length case.now.model.states ≡ 3 }
@@ -57,7 +57,7 @@ fn answer_of(case: &Case, bound: Bound, y: &[i64], is_ranked: bool, e: u32) -> R
 }
 
 /// The answer to these cells.
-fn answer_told(alloc: Global, case: &Case, asked: &str) -> Result<String, Untold>
+fn answer_reported(alloc: Global, case: &Case, asked: &str) -> Result<String, Unreported>
     requires precision { case.now.w ≡ 4 }
     requires states { length case.now.model.states ≡ 3 }
     requires first { is_goal case.now.model 0 ≡ false }
@@ -67,7 +67,7 @@ fn answer_told(alloc: Global, case: &Case, asked: &str) -> Result<String, Untold
     let (numbers, marks, rate, bound) = cut_three(asked);
     let (y, bound, e) = (numbers_of(numbers)?, bound_of(bound)?, count(rate));
     if e > 126 {
-        return Err(Untold::Cell);
+        return Err(Unreported::Cell);
     }
     shown(alloc, answer_of(case, bound, &y, marks == "0 1", e))
 }
@@ -79,28 +79,28 @@ struct Rejection<'a> {
 }
 
 impl Asker for Rejection<'_> {
-    type Told = String;
+    type Reported = String;
 
-    fn ask(&self, alloc: Global, case: &Case) -> Result<String, Untold> {
+    fn ask(&self, alloc: Global, case: &Case) -> Result<String, Unreported> {
         let model = case.model();
         if case.w() != 4 || model.states() != 3 {
-            return Err(Untold::Cell);
+            return Err(Unreported::Cell);
         }
         if model.is_goal(0) || !model.is_goal(1) || model.is_goal(2) {
-            return Err(Untold::Cell);
+            return Err(Unreported::Cell);
         }
-        answer_told(alloc, case, self.asked)
+        answer_reported(alloc, case, self.asked)
     }
 }
 
 struct Rejections;
 
 impl Teller for Rejections {
-    type Told = String;
+    type Reported = String;
 
-    type Error = Untold;
+    type Error = Unreported;
 
-    fn tell(&self, alloc: Global, asked: &str) -> Result<String, Untold> {
+    fn tell(&self, alloc: Global, asked: &str) -> Result<String, Unreported> {
         ask_text(alloc, COIN, b"3/5<=p<=9/10", 4, &Rejection { asked })
     }
 }

@@ -11,7 +11,7 @@ use lift_rows::{RowError, admit, cases_have_distributions, first_fault_is_one};
 use std::alloc::Global;
 use std::string::String;
 use test_cases::root_of;
-use test_cells::{Teller, Untold, cut};
+use test_cells::{Teller, Unreported, cut};
 
 /// The row of state 0, a region, and the first fault over it at depth 0 and precision 4.
 const FAULTS: &str = "\
@@ -32,21 +32,21 @@ fn first_fault(model: &Model, root: &Rect, grid: Grid) -> Result<(), RowError>
 }
 
 /// The first fault, where what it says of its row is small.
-fn shown(alloc: Global, answer: Result<(), RowError>) -> Result<String, Untold> {
+fn shown(alloc: Global, answer: Result<(), RowError>) -> Result<String, Unreported> {
     match answer {
-        Err(error) if error.row() != (0, 0) || error.number() > 4 => Err(Untold::Cell),
+        Err(error) if error.row() != (0, 0) || error.number() > 4 => Err(Unreported::Cell),
         answer => Ok(format!(in alloc; "{answer:?}")?),
     }
 }
 
 /// The first fault of a model over a region.
-fn fault_over(alloc: Global, model: &Model, region: &[u8]) -> Result<String, Untold> {
+fn fault_over(alloc: Global, model: &Model, region: &[u8]) -> Result<String, Unreported> {
     let (grid, root) = root_of(alloc, region, model.names(), 0)?;
     shown(alloc, first_fault(model, &root, grid))
 }
 
 /// The same of the model of a text.
-fn fault_of(alloc: Global, lines: &str, region: &[u8]) -> Result<String, Untold> {
+fn fault_of(alloc: Global, lines: &str, region: &[u8]) -> Result<String, Unreported> {
     let model = model_of(alloc, lines)?;
     let fault = fault_over(alloc, &model, region);
     drop(model);
@@ -56,11 +56,11 @@ fn fault_of(alloc: Global, lines: &str, region: &[u8]) -> Result<String, Untold>
 struct FirstFaults;
 
 impl Teller for FirstFaults {
-    type Told = String;
+    type Reported = String;
 
-    type Error = Untold;
+    type Error = Unreported;
 
-    fn tell(&self, alloc: Global, asked: &str) -> Result<String, Untold> {
+    fn tell(&self, alloc: Global, asked: &str) -> Result<String, Unreported> {
         let (entries, region) = cut(asked);
         let text = chain_of(alloc, entries)?;
         fault_of(alloc, &text, region.as_bytes())

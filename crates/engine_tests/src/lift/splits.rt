@@ -10,7 +10,7 @@ use lift_grid::{halves_stay_on_grid, members_are_below, narrow, read_region, spl
 use lift_names::Names;
 use std::alloc::{AllocError, Global};
 use std::string::String;
-use test_cells::{Teller, Untold, cut};
+use test_cells::{Teller, Unreported, cut};
 
 /// One half of a rectangle.
 fn half(alloc: Global, sides: &[i64], axis: u32, lower: bool) -> Result<Vec<i64>, AllocError>
@@ -53,39 +53,39 @@ const SPLITS: &str = "\
 -1<=p<=0,3<=q<=7/2,5<=r<=6 | 7 | 0 [-4, -2, 12, 14, 20, 24] [-2, 0, 12, 14, 20, 24]";
 
 /// The axis and both halves of the region of three names.
-fn halves_over(alloc: Global, names: &Names, region: &[u8], live: u16) -> Result<String, Untold>
+fn halves_over(alloc: Global, names: &Names, region: &[u8], live: u16) -> Result<String, Unreported>
     requires names { length names.now ≡ 3 }
     requires live { live < 2 ^ 3 }
 {
     match read_region(alloc, region, names, 1) {
         Ok((_, root)) if root.sides().len() == 6 => Ok(halves(alloc, root.sides(), live)?),
-        _ => Err(Untold::Cell),
+        _ => Err(Unreported::Cell),
     }
 }
 
 /// The same of a row's cells.
-fn halves_told(alloc: Global, names: &Names, asked: &str) -> Result<String, Untold> {
+fn halves_reported(alloc: Global, names: &Names, asked: &str) -> Result<String, Unreported> {
     let (region, live) = cut(asked);
     match live.parse::<u16>() {
         Ok(live) if live < 8 && names.len() == 3 => {
             halves_over(alloc, names, region.as_bytes(), live)
         }
-        _ => Err(Untold::Cell),
+        _ => Err(Unreported::Cell),
     }
 }
 
 struct Splits;
 
 impl Teller for Splits {
-    type Told = String;
+    type Reported = String;
 
-    type Error = Untold;
+    type Error = Unreported;
 
-    fn tell(&self, alloc: Global, asked: &str) -> Result<String, Untold> {
+    fn tell(&self, alloc: Global, asked: &str) -> Result<String, Unreported> {
         let names = names_of(alloc, "p q r")?;
-        let told = halves_told(alloc, &names, asked);
+        let reported = halves_reported(alloc, &names, asked);
         drop(names);
-        told
+        reported
     }
 }
 

@@ -3,7 +3,7 @@ use crate::cells::each_row;
 use crate::check::reports::{answer_of, changed_report};
 use std::alloc::Global;
 use std::string::String;
-use test_cells::{Teller, Untold, cut};
+use test_cells::{Teller, Unreported, cut};
 
 // Each row: the report, the changes of its lines, and the answer.
 const ANSWERS: &str = "\
@@ -50,11 +50,11 @@ SPLIT | 24=reject e 1 k 1 m 1 b 12/16 / 25=y 12 16 0 | \
 pub struct Answered;
 
 impl Teller for Answered {
-    type Told = String;
+    type Reported = String;
 
-    type Error = Untold;
+    type Error = Unreported;
 
-    fn tell(&self, alloc: Global, asked: &str) -> Result<String, Untold> {
+    fn tell(&self, alloc: Global, asked: &str) -> Result<String, Unreported> {
         let (name, changes) = cut(asked);
         let text = changed_report(alloc, name, changes)?;
         answer_of(alloc, text, 0)

@@ -5,7 +5,7 @@ use cert_check::check_within;
 use lift_base::MemSource;
 use std::alloc::{AllocError, Global};
 use std::string::String;
-use test_cells::{Teller, Untold, cut, cut_two, number};
+use test_cells::{Teller, Unreported, cut, cut_two, number};
 
 // Each row: the report, how many bytes may be taken, and the answer.
 const LIMITS: &str = "\
@@ -24,11 +24,11 @@ fn answer_within(alloc: Global, text: Vec<u8>, limit: u64) -> Result<String, All
 struct Limited;
 
 impl Teller for Limited {
-    type Told = String;
+    type Reported = String;
 
-    type Error = Untold;
+    type Error = Unreported;
 
-    fn tell(&self, alloc: Global, asked: &str) -> Result<String, Untold> {
+    fn tell(&self, alloc: Global, asked: &str) -> Result<String, Unreported> {
         let (name, limit) = cut(asked);
         let text = changed_report(alloc, name, "-")?;
         Ok(answer_within(alloc, text, number(limit))?)
@@ -48,11 +48,11 @@ COIN | 1=plift | 2 | Text(TextError { line: 1, cause: Syntax })
 struct Failing;
 
 impl Teller for Failing {
-    type Told = String;
+    type Reported = String;
 
-    type Error = Untold;
+    type Error = Unreported;
 
-    fn tell(&self, alloc: Global, asked: &str) -> Result<String, Untold> {
+    fn tell(&self, alloc: Global, asked: &str) -> Result<String, Unreported> {
         let (name, changes, call) = cut_two(asked);
         let text = changed_report(alloc, name, changes)?;
         answer_of(alloc, text, number(call))
@@ -60,6 +60,6 @@ impl Teller for Failing {
 }
 
 #[test]
-fn a_fault_of_the_text_is_told_before_one_behind_it(rt: HostRuntime) {
+fn a_fault_of_the_text_is_reported_before_one_behind_it(rt: HostRuntime) {
     each_row(&rt, rt.alloc(), FAULTS, &Failing);
 }

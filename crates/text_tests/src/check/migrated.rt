@@ -4,7 +4,7 @@ use cert_check::{check_text, sound_files_migrate};
 use cert_text::migrate_text;
 use lift_base::MemSink;
 use std::alloc::{AllocError, Global};
-use test_cells::{Untold, cut_two};
+use test_cells::{Unreported, cut_two};
 
 // Each row: the report, its changes, and with them those that make its text of the second version.
 const MIGRATED: &str = "\
@@ -46,7 +46,7 @@ fn are_fronts(alloc: Global, report: &[u8], text: &[u8]) -> Result<bool, AllocEr
 }
 
 // The same of a row's report and text.
-fn is_migrated(alloc: Global, row: &str) -> Result<bool, Untold> {
+fn is_migrated(alloc: Global, row: &str) -> Result<bool, Unreported> {
     let (name, old, new) = cut_two(row);
     let report = changed_report(alloc, name, old)?;
     let text = changed_report(alloc, name, new)?;
@@ -54,7 +54,7 @@ fn is_migrated(alloc: Global, row: &str) -> Result<bool, Untold> {
 }
 
 #[test]
-fn reports_are_told_in_the_second_version(rt: HostRuntime) {
+fn reports_are_reported_in_the_second_version(rt: HostRuntime) {
     for row in MIGRATED.lines() {
         assert!(rt; matches!(is_migrated(rt.alloc(), row), Ok(true)), "{row}");
     }

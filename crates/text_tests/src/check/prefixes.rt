@@ -2,7 +2,7 @@
 use crate::check::reports::{answer_of, changed_report};
 use std::alloc::{AllocError, Global};
 use std::string::String;
-use test_cells::Untold;
+use test_cells::Unreported;
 
 // The answer to a text that ends too early: it is refused at the line that is due.
 fn truncated(alloc: Global, text: &[u8]) -> Result<String, AllocError> {
@@ -11,7 +11,7 @@ fn truncated(alloc: Global, text: &[u8]) -> Result<String, AllocError> {
 }
 
 // The answer to a text.
-fn answer_to(alloc: Global, text: &[u8]) -> Result<String, Untold> {
+fn answer_to(alloc: Global, text: &[u8]) -> Result<String, Unreported> {
     answer_of(alloc, Vec::from_slice(alloc, text)?, 0)
 }
 
@@ -34,7 +34,7 @@ fn truncated_fronts(alloc: Global, text: &[u8]) -> usize {
 }
 
 // How many bytes the coin's report has, and the same of it.
-fn fronts_of_coin(alloc: Global) -> Result<(usize, usize), Untold> {
+fn fronts_of_coin(alloc: Global) -> Result<(usize, usize), Unreported> {
     let text = changed_report(alloc, "COIN", "-")?;
     Ok((text.len(), truncated_fronts(alloc, &text)))
 }
@@ -45,14 +45,14 @@ fn texts_that_are_cut_off_are_truncated(rt: HostRuntime) {
 }
 
 // Whether a fault is told where that call of the coin's source fails.
-fn is_fault(alloc: Global, call: u64) -> Result<bool, Untold> {
+fn is_fault(alloc: Global, call: u64) -> Result<bool, Unreported> {
     let text = changed_report(alloc, "COIN", "-")?;
     let got = answer_of(alloc, text, call)?;
     Ok(got.as_str() == "Fault")
 }
 
 #[test]
-fn a_fault_of_each_read_is_told(rt: HostRuntime) {
+fn a_fault_of_each_read_is_reported(rt: HostRuntime) {
     for call in 1..31 {
         assert!(rt; matches!(is_fault(rt.alloc(), call), Ok(true)), "{call}");
     }

@@ -5,7 +5,7 @@ use cert_check::{CheckError, Summary, check};
 use lift_base::MemSource;
 use std::alloc::{AllocError, Global};
 use std::string::String;
-use test_cells::Untold;
+use test_cells::Unreported;
 
 // COIN: a coin that is accepted. HIGH: one that is rejected. SPLIT: one whose region is halved twice,
 // with a leaf of each kind. MIDDLE: one that is left unknown. HALVED: the same, halved once. IDLE: a
@@ -52,10 +52,10 @@ pub fn find_report(name: &str) -> Option<&'static str> {
 }
 
 /// The bytes of the report of that name, with changes.
-pub fn changed_report(alloc: Global, name: &str, changes: &str) -> Result<Vec<u8>, Untold> {
+pub fn changed_report(alloc: Global, name: &str, changes: &str) -> Result<Vec<u8>, Unreported> {
     match find_report(name) {
         Some(report) => Ok(changed(alloc, report, changes)?),
-        None => Err(Untold::Cell),
+        None => Err(Unreported::Cell),
     }
 }
 
@@ -73,7 +73,7 @@ fn source_of(alloc: Global, text: Vec<u8>, failing: u64) -> Result<MemSource, Al
 }
 
 /// What is answered to a text, a call of whose source may fail: none where it is 0.
-pub fn answer_of(alloc: Global, text: Vec<u8>, failing: u64) -> Result<String, Untold> {
+pub fn answer_of(alloc: Global, text: Vec<u8>, failing: u64) -> Result<String, Unreported> {
     let mut source = source_of(alloc, text, failing)?;
     let answer = check(alloc, &mut source);
     drop(source);

@@ -5,7 +5,7 @@ use drn_read::{Costs, DrnError, read_costs};
 use lift_base::{MemSink, Word, WriteFault, write_words};
 use std::alloc::{AllocError, Global};
 use std::string::String;
-use test_cells::{Teller, Untold, cut, cut_two, number};
+use test_cells::{Teller, Unreported, cut, cut_two, number};
 
 // A loop with a reward, some of whose lines change.
 const LOOP: &[u8] =
@@ -72,44 +72,44 @@ fn write_costs(out: &mut MemSink, costs: &Costs) -> Result<(), WriteFault> {
 }
 
 // The words that tell the costs.
-fn told(alloc: Global, costs: &Costs) -> Result<String, Untold> {
+fn reported(alloc: Global, costs: &Costs) -> Result<String, Unreported> {
     let mut out = MemSink::new(alloc, 10000, 10000, Vec::new(alloc))?;
     match write_costs(&mut out, costs) {
         Ok(()) => Ok(String::from_utf8_lossy(alloc, out.taken())?),
-        Err(_) => Err(Untold::Cell),
+        Err(_) => Err(Unreported::Cell),
     }
 }
 
 // The words that tell a refusal.
-fn refusal_told(alloc: Global, error: DrnError) -> Result<String, AllocError> {
+fn refusal_reported(alloc: Global, error: DrnError) -> Result<String, AllocError> {
     let (name, number) = (error.cause.name(), error.cause.number());
     format!(in alloc; "{} {name} {number}", error.line)
 }
 
 // The costs that a text stands for, or why it is refused.
-fn costs_told(alloc: Global, text: &[u8], reward: &str) -> Result<String, Untold> {
+fn costs_reported(alloc: Global, text: &[u8], reward: &str) -> Result<String, Unreported> {
     if text.len() >= 100000 {
-        return Err(Untold::Cell);
+        return Err(Unreported::Cell);
     }
     match read_costs(alloc, text, b"heads", reward.as_bytes()) {
         Ok((model, costs)) => {
             drop(model);
-            let told = told(alloc, &costs);
+            let reported = reported(alloc, &costs);
             drop(costs);
-            told
+            reported
         }
-        Err(error) => Ok(refusal_told(alloc, error)?),
+        Err(error) => Ok(refusal_reported(alloc, error)?),
     }
 }
 
 struct Rewards;
 
 impl Teller for Rewards {
-    type Told = String;
+    type Reported = String;
 
-    type Error = Untold;
+    type Error = Unreported;
 
-    fn tell(&self, alloc: Global, asked: &str) -> Result<String, Untold> {
+    fn tell(&self, alloc: Global, asked: &str) -> Result<String, Unreported> {
         let (from, count, rest) = cut_two(asked);
         let (new, reward) = cut(rest);
         let new = text_of(alloc, new)?;
@@ -120,7 +120,7 @@ impl Teller for Rewards {
             number(count) as usize,
             &new,
         )?;
-        costs_told(alloc, &text, reward)
+        costs_reported(alloc, &text, reward)
     }
 }
 

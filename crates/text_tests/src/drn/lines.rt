@@ -9,7 +9,7 @@ use drn_lexer::{
 };
 use std::alloc::{AllocError, Global};
 use std::string::String;
-use test_cells::{Teller, Untold, cut, number};
+use test_cells::{Teller, Unreported, cut, number};
 
 /// Where a line begins and ends and its number, or why it is refused.
 fn shown_line(alloc: Global, answer: Result<Option<Line>, LexError>) -> Result<String, AllocError> {
@@ -64,13 +64,13 @@ fn shown_lines(alloc: Global, lines: TwoLines) -> Result<String, AllocError> {
 struct Lines;
 
 impl Teller for Lines {
-    type Told = String;
+    type Reported = String;
 
-    type Error = Untold;
+    type Error = Unreported;
 
-    fn tell(&self, alloc: Global, asked: &str) -> Result<String, Untold> {
+    fn tell(&self, alloc: Global, asked: &str) -> Result<String, Unreported> {
         let text = text_of(alloc, asked)?;
-        let lines = two_lines(&text).ok_or(Untold::Cell)?;
+        let lines = two_lines(&text).ok_or(Unreported::Cell)?;
         Ok(shown_lines(alloc, lines)?)
     }
 }
@@ -89,9 +89,9 @@ a | 1048577 | LongLine
 \r | 1048577 | LongLine";
 
 /// The first line of a text.
-fn first_line(alloc: Global, text: &[u8]) -> Result<String, Untold> {
+fn first_line(alloc: Global, text: &[u8]) -> Result<String, Unreported> {
     if text.len() >= 2000000 {
-        return Err(Untold::Cell);
+        return Err(Unreported::Cell);
     }
     let line = next_line(text, &mut Place::start());
     Ok(shown_line(alloc, line)?)
@@ -107,11 +107,11 @@ fn long_line(alloc: Global, byte: u8, count: usize) -> Result<Vec<u8>, AllocErro
 struct LongLines;
 
 impl Teller for LongLines {
-    type Told = String;
+    type Reported = String;
 
-    type Error = Untold;
+    type Error = Unreported;
 
-    fn tell(&self, alloc: Global, asked: &str) -> Result<String, Untold> {
+    fn tell(&self, alloc: Global, asked: &str) -> Result<String, Unreported> {
         let (byte, count) = cut(asked);
         let byte = byte.bytes().next().unwrap_or(b'?');
         let text = long_line(alloc, byte, number(count) as usize)?;
@@ -163,15 +163,15 @@ fn whole(text: &[u8]) -> Line
 struct NextWords;
 
 impl Teller for NextWords {
-    type Told = String;
+    type Reported = String;
 
-    type Error = Untold;
+    type Error = Unreported;
 
-    fn tell(&self, alloc: Global, asked: &str) -> Result<String, Untold> {
+    fn tell(&self, alloc: Global, asked: &str) -> Result<String, Unreported> {
         let (text, at) = cut(asked);
         let (text, at) = (text.as_bytes(), number(at) as usize);
         if at > text.len() {
-            return Err(Untold::Cell);
+            return Err(Unreported::Cell);
         }
         Ok(shown_word(alloc, next_word(text, whole(text), at))?)
     }
@@ -200,7 +200,7 @@ fn form(name: &str) -> WordForm {
 struct UnquotedWords;
 
 impl Teller for UnquotedWords {
-    type Told = String;
+    type Reported = String;
 
     type Error = AllocError;
 
@@ -251,15 +251,15 @@ fn shown_symbol(alloc: Global, answer: Option<Symbol>) -> Result<String, AllocEr
 struct NextSymbols;
 
 impl Teller for NextSymbols {
-    type Told = String;
+    type Reported = String;
 
-    type Error = Untold;
+    type Error = Unreported;
 
-    fn tell(&self, alloc: Global, asked: &str) -> Result<String, Untold> {
+    fn tell(&self, alloc: Global, asked: &str) -> Result<String, Unreported> {
         let (text, at) = cut(asked);
         let (text, at) = (text.as_bytes(), number(at) as usize);
         if at > text.len() {
-            return Err(Untold::Cell);
+            return Err(Unreported::Cell);
         }
         Ok(shown_symbol(alloc, next_symbol(text, whole(text), at))?)
     }

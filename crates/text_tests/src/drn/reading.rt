@@ -6,7 +6,7 @@ use lift_base::{MemSink, Word, WriteFault, write_words};
 use lift_model::{Entry, Kind, Model};
 use std::alloc::{AllocError, Global};
 use std::string::String;
-use test_cells::{Teller, Untold, cut, cut_two, number};
+use test_cells::{Teller, Unreported, cut, cut_two, number};
 
 // A text, the goal's label, and the model. In order: a coin; the same with a comment, tabs and
 // carriage returns; another goal; a loop, over 2; two choices; a first choice without an action
@@ -228,40 +228,40 @@ fn write_model(out: &mut MemSink, model: &Model) -> Result<(), WriteFault> {
 }
 
 // The words that tell a model.
-fn told(alloc: Global, model: &Model) -> Result<String, Untold> {
+fn reported(alloc: Global, model: &Model) -> Result<String, Unreported> {
     let mut out = MemSink::new(alloc, 10000, 10000, Vec::new(alloc))?;
     match write_model(&mut out, model) {
         Ok(()) => Ok(String::from_utf8_lossy(alloc, out.taken())?),
-        Err(_) => Err(Untold::Cell),
+        Err(_) => Err(Unreported::Cell),
     }
 }
 
 // The model that a text stands for.
-fn model_told(alloc: Global, text: &[u8], label: &str) -> Result<String, Untold> {
+fn model_reported(alloc: Global, text: &[u8], label: &str) -> Result<String, Unreported> {
     if text.len() >= 100000 {
-        return Err(Untold::Cell);
+        return Err(Unreported::Cell);
     }
     match read_model(alloc, text, label.as_bytes()) {
         Ok(model) => {
-            let told = told(alloc, &model);
+            let reported = reported(alloc, &model);
             drop(model);
-            told
+            reported
         }
-        Err(_) => Err(Untold::Cell),
+        Err(_) => Err(Unreported::Cell),
     }
 }
 
 struct Models;
 
 impl Teller for Models {
-    type Told = String;
+    type Reported = String;
 
-    type Error = Untold;
+    type Error = Unreported;
 
-    fn tell(&self, alloc: Global, asked: &str) -> Result<String, Untold> {
+    fn tell(&self, alloc: Global, asked: &str) -> Result<String, Unreported> {
         let (text, label) = cut(asked);
         let text = text_of(alloc, text)?;
-        model_told(alloc, &text, label)
+        model_reported(alloc, &text, label)
     }
 }
 
@@ -280,21 +280,21 @@ fn refusal(alloc: Global, text: &[u8], label: &str) -> Option<(u32, &'static str
 }
 
 // The same as it is shown.
-fn refusal_told(alloc: Global, text: &[u8], label: &str) -> Result<String, Untold> {
+fn refusal_reported(alloc: Global, text: &[u8], label: &str) -> Result<String, Unreported> {
     match refusal(alloc, text, label) {
         Some((line, cause)) => Ok(format!(in alloc; "{line} {cause}")?),
-        None => Err(Untold::Cell),
+        None => Err(Unreported::Cell),
     }
 }
 
 struct Changes;
 
 impl Teller for Changes {
-    type Told = String;
+    type Reported = String;
 
-    type Error = Untold;
+    type Error = Unreported;
 
-    fn tell(&self, alloc: Global, asked: &str) -> Result<String, Untold> {
+    fn tell(&self, alloc: Global, asked: &str) -> Result<String, Unreported> {
         let (from, count, new) = cut_two(asked);
         let new = text_of(alloc, new)?;
         let text = changed(
@@ -304,7 +304,7 @@ impl Teller for Changes {
             number(count) as usize,
             &new,
         )?;
-        refusal_told(alloc, &text, "heads")
+        refusal_reported(alloc, &text, "heads")
     }
 }
 
@@ -316,14 +316,14 @@ fn refuses_the_first_fault(rt: HostRuntime) {
 struct WholeTexts;
 
 impl Teller for WholeTexts {
-    type Told = String;
+    type Reported = String;
 
-    type Error = Untold;
+    type Error = Unreported;
 
-    fn tell(&self, alloc: Global, asked: &str) -> Result<String, Untold> {
+    fn tell(&self, alloc: Global, asked: &str) -> Result<String, Unreported> {
         let (text, label) = cut(asked);
         let text = text_of(alloc, text)?;
-        refusal_told(alloc, &text, label)
+        refusal_reported(alloc, &text, label)
     }
 }
 
@@ -338,13 +338,13 @@ const FEEDS: &str = "67108864 | 67108864 MissingSection";
 struct Feeds;
 
 impl Teller for Feeds {
-    type Told = String;
+    type Reported = String;
 
-    type Error = Untold;
+    type Error = Unreported;
 
-    fn tell(&self, alloc: Global, asked: &str) -> Result<String, Untold> {
+    fn tell(&self, alloc: Global, asked: &str) -> Result<String, Unreported> {
         let feeds = vec![in alloc; b'\n'; number(asked) as usize]?;
-        refusal_told(alloc, &feeds, "heads")
+        refusal_reported(alloc, &feeds, "heads")
     }
 }
 

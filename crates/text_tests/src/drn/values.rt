@@ -119,7 +119,7 @@ p*p+1/0 | SharedParameter
 struct Values;
 
 impl Teller for Values {
-    type Told = String;
+    type Reported = String;
 
     type Error = AllocError;
 
@@ -146,7 +146,7 @@ const NESTED: &str = "\
 struct Nested;
 
 impl Teller for Nested {
-    type Told = String;
+    type Reported = String;
 
     type Error = AllocError;
 
@@ -183,7 +183,7 @@ const SUMS: &str = "\
 struct Sums;
 
 impl Teller for Sums {
-    type Told = String;
+    type Reported = String;
 
     type Error = AllocError;
 

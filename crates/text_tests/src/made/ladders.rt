@@ -5,7 +5,7 @@ use crate::cells::each_row;
 use lift_base::{MemSink, SureSink, write_buffered};
 use model_gen::{Ladder, generate};
 use std::alloc::{AllocError, Global};
-use test_cells::{Teller, Untold, cut, number};
+use test_cells::{Teller, Unreported, cut, number};
 
 /// The ladder of one block.
 const ONE: &str = "\
@@ -55,18 +55,18 @@ fn taken(out: &MemSink, is_whole: bool) -> Option<usize> {
 struct Rooms;
 
 impl Teller for Rooms {
-    type Told = usize;
+    type Reported = usize;
 
-    type Error = Untold;
+    type Error = Unreported;
 
-    fn tell(&self, alloc: Global, asked: &str) -> Result<usize, Untold> {
+    fn tell(&self, alloc: Global, asked: &str) -> Result<usize, Unreported> {
         let (room, step) = cut(asked);
         let (out, is_whole) = ladder_of_one(
             alloc,
             number(room) as usize,
             number(step).max(1) as usize,
         )?;
-        taken(&out, is_whole).ok_or(Untold::Cell)
+        taken(&out, is_whole).ok_or(Unreported::Cell)
     }
 }
 
@@ -96,14 +96,14 @@ fn length_of(blocks: u32) -> Option<u64> {
 struct Lengths;
 
 impl Teller for Lengths {
-    type Told = u64;
+    type Reported = u64;
 
-    type Error = Untold;
+    type Error = Unreported;
 
-    fn tell(&self, _alloc: Global, asked: &str) -> Result<u64, Untold> {
+    fn tell(&self, _alloc: Global, asked: &str) -> Result<u64, Unreported> {
         match asked.parse::<u32>() {
-            Ok(blocks) => length_of(blocks).ok_or(Untold::Cell),
-            Err(_) => Err(Untold::Cell),
+            Ok(blocks) => length_of(blocks).ok_or(Unreported::Cell),
+            Err(_) => Err(Unreported::Cell),
         }
     }
 }

@@ -197,56 +197,56 @@ PAIR 8=row 0 0 0;row 0 1 2 / 11=row 0 2 1 | row 0 0 row 0 1 to 1 1:2 to 0 0:2 1:
 ";
 
 // Tells the names of a head's parameters, each with a blank behind it.
-fn tell_names(told: &mut String, head: &Head) -> Result<(), AllocError> {
+fn tell_names(reported: &mut String, head: &Head) -> Result<(), AllocError> {
     let names = head.model().names();
     for index in 0..names.len() {
         for byte in names.get(index) {
-            told.push(char::from(*byte))?;
+            reported.push(char::from(*byte))?;
         }
-        told.push(' ')?;
+        reported.push(' ')?;
     }
     Ok(())
 }
 
 // Tells the root of a head, by its grid.
-fn tell_root(told: &mut String, head: &Head) -> Result<(), AllocError> {
+fn tell_root(reported: &mut String, head: &Head) -> Result<(), AllocError> {
     let (depth, d) = (head.grid().depth, head.grid().d);
-    write!(told, "{depth} {d} box")?;
+    write!(reported, "{depth} {d} box")?;
     for end in head.root().sides() {
-        write!(told, " {end}")?;
+        write!(reported, " {end}")?;
     }
     Ok(())
 }
 
 // Tells what a head says beside its rows.
-fn tell_head(told: &mut String, head: &Head) -> Result<(), AllocError> {
-    tell_names(told, head)?;
+fn tell_head(reported: &mut String, head: &Head) -> Result<(), AllocError> {
+    tell_names(reported, head)?;
     let (states, init) = (head.model().states(), head.model().init());
     let (num, den) = (head.bound().num, head.bound().den);
-    write!(told, "{states} {init} {num}/{den} {} ", head.w())?;
-    tell_root(told, head)
+    write!(reported, "{states} {init} {num}/{den} {} ", head.w())?;
+    tell_root(reported, head)
 }
 
 // Tells a row.
-fn tell_row(told: &mut String, row: &Row) -> Result<(), AllocError> {
+fn tell_row(reported: &mut String, row: &Row) -> Result<(), AllocError> {
     for entry in row.entries() {
-        write!(told, " to {}", entry.target)?;
+        write!(reported, " to {}", entry.target)?;
         for index in 0..entry.poly.len() {
             let (set, number) = entry.poly.term(index);
-            write!(told, " {set}:{number}")?;
+            write!(reported, " {set}:{number}")?;
         }
     }
     Ok(())
 }
 
 // Tells the rows of a head's model.
-fn tell_rows(told: &mut String, head: &Head) -> Result<(), AllocError> {
+fn tell_rows(reported: &mut String, head: &Head) -> Result<(), AllocError> {
     let model = head.model();
     for s in 0..model.states() {
         for a in 0..model.choices(s) {
-            let blank = if told.is_empty() { "" } else { " " };
-            write!(told, "{blank}row {s} {a}")?;
-            tell_row(told, model.row(s, a))?;
+            let blank = if reported.is_empty() { "" } else { " " };
+            write!(reported, "{blank}row {s} {a}")?;
+            tell_row(reported, model.row(s, a))?;
         }
     }
     Ok(())
@@ -254,21 +254,21 @@ fn tell_rows(told: &mut String, head: &Head) -> Result<(), AllocError> {
 
 // What a head tells beside its rows.
 fn shown(alloc: Global, head: &Head, line: u64) -> Result<String, AllocError> {
-    let mut told = String::new(alloc);
-    tell_head(&mut told, head)?;
-    write!(told, " line {line}")?;
-    Ok(told)
+    let mut reported = String::new(alloc);
+    tell_head(&mut reported, head)?;
+    write!(reported, " line {line}")?;
+    Ok(reported)
 }
 
 // The rows of a head's model.
 fn shown_rows(alloc: Global, head: &Head) -> Result<String, AllocError> {
-    let mut told = String::new(alloc);
-    tell_rows(&mut told, head)?;
-    Ok(told)
+    let mut reported = String::new(alloc);
+    tell_rows(&mut reported, head)?;
+    Ok(reported)
 }
 
 // The rows of a head's model, or what it tells beside them.
-fn told_of(alloc: Global, head: &Head, line: u64, rows: bool) -> Result<String, AllocError> {
+fn reported_of(alloc: Global, head: &Head, line: u64, rows: bool) -> Result<String, AllocError> {
     if rows {
         shown_rows(alloc, head)
     } else {
@@ -284,9 +284,9 @@ fn answer_of(alloc: Global, text: &[u8], rows: bool) -> Result<String, AllocErro
     drop(lines);
     match read {
         Ok(head) => {
-            let told = told_of(alloc, &head, line, rows);
+            let reported = reported_of(alloc, &head, line, rows);
             drop(head);
-            told
+            reported
         }
         Err(error) => shown_fault(alloc, error),
     }
@@ -299,7 +299,7 @@ struct Heads {
 }
 
 impl Teller for Heads {
-    type Told = String;
+    type Reported = String;
 
     type Error = AllocError;
 
@@ -346,7 +346,7 @@ fn long_line(alloc: Global, len: usize, ends: bool) -> Result<Vec<u8>, AllocErro
 struct LongLines;
 
 impl Teller for LongLines {
-    type Told = String;
+    type Reported = String;
 
     type Error = AllocError;
 

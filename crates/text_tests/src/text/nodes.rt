@@ -93,31 +93,31 @@ PAIR 20=reject e 0 k 2 m 0 b 1024/1024;y 1024 1024;choice 2 -;rank 2 0 | 22 Limi
 ";
 
 // Tells a word and the numbers of the states.
-fn tell_numbers(told: &mut String, word: &str, numbers: &[i64]) -> Result<(), AllocError> {
-    told.push_str(word)?;
+fn tell_numbers(reported: &mut String, word: &str, numbers: &[i64]) -> Result<(), AllocError> {
+    reported.push_str(word)?;
     for number in numbers {
-        write!(told, " {number}")?;
+        write!(reported, " {number}")?;
     }
     Ok(())
 }
 
 // Tells a word and the marks of the states.
-fn tell_marks(told: &mut String, word: &str, marks: &[u32]) -> Result<(), AllocError> {
-    told.push_str(word)?;
+fn tell_marks(reported: &mut String, word: &str, marks: &[u32]) -> Result<(), AllocError> {
+    reported.push_str(word)?;
     for mark in marks {
         match *mark {
-            u32::MAX => told.push_str(" -")?,
-            mark => write!(told, " {mark}")?,
+            u32::MAX => reported.push_str(" -")?,
+            mark => write!(reported, " {mark}")?,
         }
     }
     Ok(())
 }
 
 // Tells a node.
-fn tell_node(told: &mut String, node: &Node) -> Result<(), AllocError> {
+fn tell_node(reported: &mut String, node: &Node) -> Result<(), AllocError> {
     match node {
-        Node::Split { axis } => write!(told, "split {axis}"),
-        Node::Accept { x, .. } => tell_numbers(told, "accept", x.as_slice()),
+        Node::Split { axis } => write!(reported, "split {axis}"),
+        Node::Accept { x, .. } => tell_numbers(reported, "accept", x.as_slice()),
         Node::Reject {
             e,
             k,
@@ -126,12 +126,12 @@ fn tell_node(told: &mut String, node: &Node) -> Result<(), AllocError> {
             ranks,
             ..
         } => {
-            write!(told, "reject {e} {k}")?;
-            tell_numbers(told, " y", y.as_slice())?;
-            tell_marks(told, " choice", picks.as_slice())?;
-            tell_marks(told, " rank", ranks.as_slice())
+            write!(reported, "reject {e} {k}")?;
+            tell_numbers(reported, " y", y.as_slice())?;
+            tell_marks(reported, " choice", picks.as_slice())?;
+            tell_marks(reported, " rank", ranks.as_slice())
         }
-        Node::Unknown => told.push_str("unknown"),
+        Node::Unknown => reported.push_str("unknown"),
     }
 }
 
@@ -146,11 +146,11 @@ fn precision(node: &Node) -> Option<u32> {
 }
 
 // Tells a head's version and precisions, and the precision of the node behind it.
-fn tell_precisions(told: &mut String, head: &Head, node: &Node) -> Result<(), AllocError> {
+fn tell_precisions(reported: &mut String, head: &Head, node: &Node) -> Result<(), AllocError> {
     let (version, from, w) = (head.version(), head.from(), head.w());
-    write!(told, "{version} {from} {w} ")?;
+    write!(reported, "{version} {from} {w} ")?;
     match precision(node) {
-        Some(u) => write!(told, "at {u} "),
+        Some(u) => write!(reported, "at {u} "),
         None => Ok(()),
     }
 }
@@ -165,11 +165,11 @@ pub enum FirstNode {
 }
 
 impl FirstNode {
-    fn tell_of(self, told: &mut String, head: &Head, node: &Node) -> Result<(), AllocError> {
+    fn tell_of(self, reported: &mut String, head: &Head, node: &Node) -> Result<(), AllocError> {
         if let FirstNode::WithPrecisions = self {
-            tell_precisions(told, head, node)?;
+            tell_precisions(reported, head, node)?;
         }
-        tell_node(told, node)
+        tell_node(reported, node)
     }
 
     // The same, and the line behind it.
@@ -180,10 +180,10 @@ impl FirstNode {
         node: &Node,
         line: u64,
     ) -> Result<String, AllocError> {
-        let mut told = String::new(alloc);
-        self.tell_of(&mut told, head, node)?;
-        write!(told, " line {line}")?;
-        Ok(told)
+        let mut reported = String::new(alloc);
+        self.tell_of(&mut reported, head, node)?;
+        write!(reported, " line {line}")?;
+        Ok(reported)
     }
 
     // What is read of the first node behind a head.
@@ -209,9 +209,9 @@ impl FirstNode {
         let mut source = TextSource::new(text);
         match read_head(alloc, lines, &mut source) {
             Ok(head) => {
-                let told = self.behind(alloc, lines, &mut source, &head);
+                let reported = self.behind(alloc, lines, &mut source, &head);
                 drop(head);
-                told
+                reported
             }
             Err(error) => shown_fault(alloc, error),
         }
@@ -220,14 +220,14 @@ impl FirstNode {
     // What is read of a text's first node.
     fn of_text(self, alloc: Global, text: &[u8]) -> Result<String, AllocError> {
         let mut lines = fresh_lines(alloc)?;
-        let told = self.of_lines(alloc, &mut lines, text);
+        let reported = self.of_lines(alloc, &mut lines, text);
         drop(lines);
-        told
+        reported
     }
 }
 
 impl Teller for FirstNode {
-    type Told = String;
+    type Reported = String;
 
     type Error = AllocError;
 

@@ -15,8 +15,8 @@ const PAIR: &str = "plift 1;kind mdp;parameters 2 p q;common 2;states 2;init 0;g
     bound 1/1;precision 10;depth 2;grid 40;box 4 36 -8 40;unknown";
 
 /// The bytes of a report with changes, of which its name stands in front, as in `COIN 20=unknown`.
-pub fn changed_report(alloc: Global, told: &str) -> Result<Vec<u8>, AllocError> {
-    let (name, changes) = told.split_once(' ').unwrap_or(("", ""));
+pub fn changed_report(alloc: Global, reported: &str) -> Result<Vec<u8>, AllocError> {
+    let (name, changes) = reported.split_once(' ').unwrap_or(("", ""));
     changed(alloc, if name == "PAIR" { PAIR } else { COIN }, changes)
 }
 

@@ -7,7 +7,7 @@ use lift_base::MemSink;
 use lift_model::Model;
 use line_text::TextSource;
 use std::alloc::{AllocError, Global};
-use test_cells::{Teller, Untold};
+use test_cells::{Teller, Unreported};
 
 // A chain of five states with four parameters. A semicolon stands between two lines.
 const WIDE: &str = "plift 1;kind dtmc;parameters 4 p q r s;common 1;states 5;init 0;goal 1 1;\
@@ -48,42 +48,42 @@ fn shown_entries(alloc: Global, text: &[u8]) -> Result<String, AllocError> {
     let text = String::from_utf8_lossy(alloc, text)?;
     let (_, rows) = text.as_str().split_once("row 0 0 5\n").unwrap_or(("", ""));
     let (entries, _) = rows.split_once("row ").unwrap_or(("", ""));
-    let mut told = String::new(alloc);
+    let mut reported = String::new(alloc);
     for line in entries.lines() {
-        told.push_str(line)?;
-        told.push(';')?;
+        reported.push_str(line)?;
+        reported.push(';')?;
     }
-    Ok(told)
+    Ok(reported)
 }
 
 // What is written of a model's first row.
-fn written(alloc: Global, model: &Model) -> Result<String, Untold> {
+fn written(alloc: Global, model: &Model) -> Result<String, Unreported> {
     let mut out = MemSink::new(alloc, 10000, 10000, Vec::new(alloc))?;
     match write_model(&mut out, model) {
         Ok(()) => Ok(shown_entries(alloc, out.taken())?),
-        Err(_) => Err(Untold::Cell),
+        Err(_) => Err(Unreported::Cell),
     }
 }
 
 struct Entries;
 
 impl Teller for Entries {
-    type Told = String;
+    type Reported = String;
 
-    type Error = Untold;
+    type Error = Unreported;
 
-    fn tell(&self, alloc: Global, asked: &str) -> Result<String, Untold> {
+    fn tell(&self, alloc: Global, asked: &str) -> Result<String, Unreported> {
         let text = changed(alloc, WIDE, asked)?;
         let mut lines = fresh_lines(alloc)?;
         let read = read_head(alloc, &mut lines, &mut TextSource::new(&text));
         drop(lines);
         match read {
             Ok(head) => {
-                let told = written(alloc, head.model());
+                let reported = written(alloc, head.model());
                 drop(head);
-                told
+                reported
             }
-            Err(_) => Err(Untold::Cell),
+            Err(_) => Err(Unreported::Cell),
         }
     }
 }

@@ -2,7 +2,7 @@ use Rattle.std.proofs.Common.{rules, ◌≡◌, List, ℕ, Ok, Err}
 use Rattle.line_text.specs.Follow.{place}
 use Rattle.cert_text.specs.Head.{head_at}
 use Rattle.cert_check.specs.Answer.{FileEnds}
-use Rattle.cert_check.specs.Shown.{told}
+use Rattle.cert_check.specs.Shown.{reported}
 use Rattle.cert_check.specs.declared.file.Checked.{Checked}
 use Rattle.cert_check.proofs.Walking.{begin, tail, unchecked, unread}
 use Rattle.cert_check.proofs.Steps.{head_given, head_not_read, head_read}
@@ -13,14 +13,14 @@ returns-in_err-head-clause-end g c =
     let adds = c.calls_add_up.ensures in
     let a = c.args.walk.now.lines in
     let e = c.in_err-head.field-0.0 in
-    let is : c.from_residual.result ≡ Err (told e) = search rules in
+    let is : c.from_residual.result ≡ Err (reported e) = search rules in
     unread adds (λ (_ : List ℕ) (x : Checked). x.leaves) (begin adds (λ later. FileEnds (head_at (place a later))) a c.args.src.now) (head_not_read a) e c.from_residual.result is c.in_err-head.ensures
 
 pub check_head-requires-clause-clean : goal.check_head-requires-clause-clean
 check_head-requires-clause-clean g c = c.in_ok-head.ensures.ran.left_with
 
 pub check_head-requires-clause-lines : goal.check_head-requires-clause-lines
-check_head-requires-clause-lines g c = head_given c.heads_are_read.ensures.told c.in_ok-head.ensures
+check_head-requires-clause-lines g c = head_given c.heads_are_read.ensures.reported c.in_ok-head.ensures
 
 pub returns-in_err-leaves-clause-end : goal.returns-in_err-leaves-clause-end
 returns-in_err-leaves-clause-end g c =

@@ -9,7 +9,7 @@ use Rattle.cert_check.specs.Shown.{Says, leaves_in}
 use Rattle.cert_check.specs.declared.text.SoundText.{SoundText}
 use Rattle.cert_check.specs.declared.summary.Summary.{Summary}
 use Rattle.cert_check.specs.declared.error.CheckError.{CheckError}
-use Rattle.cert_check.proofs.Sources.{passes, source_of, text_says, text_told}
+use Rattle.cert_check.proofs.Sources.{passes, source_of, text_says, text_reported}
 use Rattle.cert_check.proofs.text.check_parts.Goals as goal
 
 pub returns-in_err-checked-clause-answer : goal.returns-in_err-checked-clause-answer

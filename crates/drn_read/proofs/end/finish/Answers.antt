@@ -1,6 +1,6 @@
 use Rattle.std.proofs.Common.{◌≡◌, List, ◌∷◌, [], None, map, rules, refl, sym, ap, subst, ◌∙◌}
 use Rattle.lift_model.specs.Valid.{IsModel}
-use Rattle.drn_read.specs.Faults.{first_of, told}
+use Rattle.drn_read.specs.Faults.{first_of, reported}
 use Rattle.drn_read.specs.States.{StateText}
 use Rattle.drn_read.specs.Judging.{Said}
 use Rattle.drn_read.specs.Reading.{end_fault, common_fault, model}
@@ -11,7 +11,7 @@ pub new-requires : goal.new-requires
 new-requires c =
     let said : Said = record { header = c.reader.inside.header; states = c.into_states-states.result.items } in
     let same : said ≡ c.args.reader = ap (λ (ss : List StateText). record { header = c.reader.inside.header; states = ss }) c.into_states-states.ensures.states ∙ c.reader.view_is in
-    let tests : end_fault c.args.number said ≡ first_of (None ∷ told c.args.number (common_fault c.into_states-states.result.items) ∷ []) = search rules in
+    let tests : end_fault c.args.number said ≡ first_of (None ∷ reported c.args.number (common_fault c.into_states-states.result.items) ∷ []) = search rules in
     let last : common_fault c.into_states-states.result.items ≡ None = search rules in
     let whole = no_fault (end_fault c.args.number said) None c.args.number c.into_states-states.result.items tests refl last in
     let is = model_is c.reader.inside.header c.into_states-states.result.items c.kind.result c.kind_or_chain.result c.in-Ok.parts.common c.into_names.result c.in-Ok.parts.goal.items c.in-Ok.parts.init (map (λ v. v.items) c.in-Ok.parts.rows.items)

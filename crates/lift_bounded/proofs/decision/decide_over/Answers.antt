@@ -1,7 +1,7 @@
 use Rattle.std.proofs.Common.{◌≡◌, ◌∙◌, length, ap, subst}
 use Rattle.std.proofs.lemmas.List.{with_items_is}
 use Rattle.corner_lift.specs.Table.{IsTable}
-use Rattle.lift_bounded.proofs.Shapes.{vectors_of, picks_of}
+use Rattle.lift_bounded.proofs.Shapes.{vectors_of, choices_of}
 use Rattle.lift_bounded.proofs.decision.decide_over.Goals as goal
 
 pub decide_in-requires : goal.decide_in-requires
@@ -14,7 +14,7 @@ decide_in-requires g c =
       (
         rw c.new-rows.ensures (vectors_of c.lanes_have_shapes.ensures.lengths k d.steps c.lanes.inside.numbers has.numbers),
         (
-          rw c.new-rows.ensures (picks_of c.lanes_have_shapes-2.ensures.lengths k d.steps c.lanes.inside.picks has.picks),
+          rw c.new-rows.ensures (choices_of c.lanes_have_shapes-2.ensures.lengths k d.steps c.lanes.inside.picks has.picks),
           (
             rw c.new-rows.ensures (ap length c.deref_mut-2.ensures.value ∙ has.work),
             rw c.new-rows.ensures (ap length c.deref_mut-3.ensures.value ∙ has.marks),

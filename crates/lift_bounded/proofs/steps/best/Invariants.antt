@@ -6,4 +6,4 @@ ghost-held g a = g.spans
 
 -- the choices below a were taken
 abbrev pub invariant-loop-a : goal.invariant-loop-a
-invariant-loop-a g l = IsGreatestFor l.rows.case g.spans l.old l.s l.a l.picked
+invariant-loop-a g l = IsGreatestFor l.rows.case g.spans l.old l.s l.a l.chosen

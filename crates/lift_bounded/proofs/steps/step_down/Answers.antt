@@ -11,9 +11,9 @@ loop-s-preserved g c =
     let old_fits : SFits w64 (number c.args.old.now c.loop-s.s) = search rules in
     let count : c.states-s-end.result ≡ length c.args.rows.now.case.model.states = c.states-s-end.ensures.value ∙ ap (λ (m : ModelData). length m.states) c.model.ensures in
     let inside : c.loop-s.s < length c.loop-s.new = omega (arith, c.loop-s-test.true, count, c.loop-s.auto.new, c.requires.1.0) in
-    let pick_inside : c.loop-s.s < length c.loop-s.picks = omega (arith, c.loop-s-test.true, count, c.loop-s.auto.picks, c.requires.1.1) in
+    let choice_inside : c.loop-s.s < length c.loop-s.picks = omega (arith, c.loop-s-test.true, count, c.loop-s.auto.picks, c.requires.1.1) in
     record {
-      each = rw (to_z-of_z fits) (set_both (λ i v p. IsLowerAt c.args.rows.now.case g.spans c.args.old.now i v p) c.loop-s.new c.loop-s.picks c.loop-s.s c.lower_at-number.result.number c.lower_at-number.result.pick inside pick_inside c.lower_at-number.ensures c.loop-s.invariant.each);
+      each = rw (to_z-of_z fits) (set_both (λ i v p. IsLowerAt c.args.rows.now.case g.spans c.args.old.now i v p) c.loop-s.new c.loop-s.picks c.loop-s.s c.lower_at-number.result.number c.lower_at-number.result.pick inside choice_inside c.lower_at-number.ensures c.loop-s.invariant.each);
       same = λ still.
           let here = rw (to_z-of_z old_fits, to_z-of_z fits) at (c.is_changed-changed.ensures.same still) in
           rw (to_z-of_z fits) (set_more (λ i v. number c.args.old.now i ≡ v) c.loop-s.new c.loop-s.s c.lower_at-number.result.number inside here (c.loop-s.invariant.same (c.is_changed-changed.ensures.before still)));

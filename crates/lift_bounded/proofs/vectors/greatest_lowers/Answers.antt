@@ -54,7 +54,7 @@ loop-n-preserved g c =
     let size : length z ≡ length k.model.states = step.lower.numbers.size in
     let inside : c.loop-n.n + 1 < length p.lanes = omega (arith, lt, sunk.has.count) in
     let same = size ∙ sym (sunk.has.sizes (c.loop-n.n + 1) (omega (arith, lt))) in
-    let same_marks = step.lower.size ∙ sym (sunk.has_picks.sizes c.loop-n.n lt) in
+    let same_marks = step.lower.size ∙ sym (sunk.has_choices.sizes c.loop-n.n lt) in
     record {
       sunk = rw (c.write-in-loop-n.ensures, c.write-in-loop-n-2.ensures) (sunk_more k g.spans c.args.h c.loop-n.n p.lanes q.lanes z m lt sunk step);
       shape = rw c.write-in-loop-n.ensures (shape_then c.args.numbers.now p _ c.loop-n.invariant.shape (c.lanes_have_shapes.ensures.writes p (c.loop-n.n + 1) z same));
@@ -73,12 +73,12 @@ write-requires-in-loop-n-clause-size g c =
     c.next_down-rising.ensures.step.lower.numbers.size ∙ sym (c.loop-n.invariant.sunk.has.sizes (c.loop-n.n + 1) (omega (arith, lt)))
 
 pub write-requires-in-loop-n-2-clause-some : goal.write-requires-in-loop-n-2-clause-some
-write-requires-in-loop-n-2-clause-some g c = omega (arith, c.loop-n-test.true, c.loop-n.auto.n-end, c.loop-n.invariant.sunk.has_picks.count)
+write-requires-in-loop-n-2-clause-some g c = omega (arith, c.loop-n-test.true, c.loop-n.auto.n-end, c.loop-n.invariant.sunk.has_choices.count)
 
 pub write-requires-in-loop-n-2-clause-size : goal.write-requires-in-loop-n-2-clause-size
 write-requires-in-loop-n-2-clause-size g c =
     let lt : c.loop-n.n < c.args.h = omega (arith, c.loop-n-test.true, c.loop-n.auto.n-end) in
-    c.next_down-rising.ensures.step.lower.size ∙ sym (c.loop-n.invariant.sunk.has_picks.sizes c.loop-n.n lt)
+    c.next_down-rising.ensures.step.lower.size ∙ sym (c.loop-n.invariant.sunk.has_choices.sizes c.loop-n.n lt)
 
 pub returns-clause-lowers : goal.returns-clause-lowers
 returns-clause-lowers g c =
@@ -86,4 +86,4 @@ returns-clause-lowers g c =
     let is : IsCase k = c.w.ensures.case in
     let all : c.loop-n.n ≡ c.args.h = omega (arith, c.loop-n-test.false, c.loop-n.auto.n-end) in
     let sunk = subst (λ n. HaveSunk k g.spans c.args.h n c.loop-n.numbers.lanes c.loop-n.picks.lanes) all c.loop-n.invariant.sunk in
-    c.steps_make_certificates.ensures.greatest k g.spans c.args.h (record { numbers = c.loop-n.numbers.lanes; picks = c.loop-n.picks.lanes }) is c.requires.0.inside (sunk.has.count, sunk.has_picks.count) sunk.start sunk.steps
+    c.steps_make_certificates.ensures.greatest k g.spans c.args.h (record { numbers = c.loop-n.numbers.lanes; picks = c.loop-n.picks.lanes }) is c.requires.0.inside (sunk.has.count, sunk.has_choices.count) sunk.start sunk.steps

@@ -7,7 +7,7 @@ use Rattle.lift_bounded.proofs.vectors.greatest_lowers.Given as goal
 abbrev pub ghost-next_down : goal.ghost-next_down
 ghost-next_down g a = g.spans
 
--- the lanes up to n are written, and where the last step brought no other vector, its vector and picks are still there
+-- the lanes up to n are written, and where the last step brought no other vector, its vector and choices are still there
 abbrev pub invariant-loop-n : goal.invariant-loop-n
 invariant-loop-n g l = record {
   sunk : HaveSunk l.rows.case g.spans l.h l.n l.numbers.lanes l.picks.lanes;

@@ -4,4 +4,4 @@ pub returns-in_err-write_numbers : goal.returns-in_err-write_numbers
 returns-in_err-write_numbers g c = c.writes_in_turn.ensures.stopped _ _ _ _ _ _ c.from_residual.ensures.0 c.in_err-write_numbers.ensures
 
 pub returns : goal.returns
-returns g c = c.writes_in_turn.ensures.both _ _ _ _ _ _ c.in_ok-write_numbers.ensures c.write_picks.ensures
+returns g c = c.writes_in_turn.ensures.both _ _ _ _ _ _ c.in_ok-write_numbers.ensures c.write_choices.ensures

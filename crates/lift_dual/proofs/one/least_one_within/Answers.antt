@@ -1,10 +1,10 @@
 use Rattle.std.proofs.Common.{◌≡◌, true, false, refl, to_z-of_z}
 use Rattle.lift_dual.proofs.one.least_one_within.Goals as goal
 
-pub pick_all-requires : goal.pick_all-requires
-pick_all-requires g c =
+pub choose_all-requires : goal.choose_all-requires
+choose_all-requires g c =
     let found = (rw (to_z-of_z c.ranges.limit) at c.least_bound_by_guess.ensures).least c.if-not-least_bound_by_guess.false in
-    (c.requires.0.table, (found.bound.numbers, (c.requires.1, c.bounds_are_vectors.ensures.met c.args.rows.now.case g.spans c.least_bound_by_guess.new.lane c.w.ensures.case c.requires.0.table.inside found.bound)))
+    (c.requires.0.table, (found.bound.numbers, (c.requires.1, c.bounds_are_vectors.ensures.satisfied c.args.rows.now.case g.spans c.least_bound_by_guess.new.lane c.w.ensures.case c.requires.0.table.inside found.bound)))
 
 pub returns-then-not-least_bound_by_guess : goal.returns-then-not-least_bound_by_guess
 returns-then-not-least_bound_by_guess g c =
@@ -20,7 +20,7 @@ pub returns : goal.returns
 returns g c =
     let found = rw (to_z-of_z c.ranges.limit) at c.least_bound_by_guess.ensures in
     record {
-      least = λ e. c.bounds_are_vectors.ensures.least_one c.args.rows.now.case g.spans c.least_bound_by_guess.new.lane c.pick_all.new.picks c.w.ensures.case c.requires.0.table.inside (found.least c.if-not-least_bound_by_guess.false) c.pick_all.ensures;
+      least = λ e. c.bounds_are_vectors.ensures.least_one c.args.rows.now.case g.spans c.least_bound_by_guess.new.lane c.choose_all.new.picks c.w.ensures.case c.requires.0.table.inside (found.least c.if-not-least_bound_by_guess.false) c.choose_all.ensures;
       first = λ e. found.first c.if-not-least_bound_by_guess.false;
       past = λ e. absurd (let wrong : true ≡ false = e in cc wrong);
       always = λ le. refl;

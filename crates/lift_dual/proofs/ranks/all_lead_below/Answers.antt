@@ -2,7 +2,7 @@ use Rattle.std.proofs.Common.{arith}
 use Rattle.std.proofs.lemmas.Bool.{both_ways}
 use Rattle.corner_lift.specs.Certificate.{mark}
 use Rattle.corner_lift.specs.Stages.{LeadsBelow}
-use Rattle.lift_dual.proofs.Picking.{one_more}
+use Rattle.lift_dual.proofs.Choosing.{one_more}
 use Rattle.lift_dual.proofs.ranks.all_lead_below.Goals as goal
 
 pub returns-then-not-leads_below-clause-some : goal.returns-then-not-leads_below-clause-some

@@ -11,5 +11,5 @@ loop-arrow-preserved c = record {
       let none : Arrow = record { source = 0; mark = 0 } in
       let all = raised_more _ _ _ _ _ c.loop-arrow.invariant.raised c.in_ok-add_mark.ensures.numbers in
       subst (λ (xs : List Arrow). AreRaised c.args.numbers.now c.add_mark.new.numbers xs) (sym (take_more c.args.arrows.now c.loop-arrow.arrow-index none c.loop-arrow-test.true)) all;
-  met = λ h. c.in_ok-add_mark.ensures.met (c.loop-arrow.invariant.met h);
+  visited = λ h. c.in_ok-add_mark.ensures.visited (c.loop-arrow.invariant.visited h);
 }

@@ -7,5 +7,5 @@ use Rattle.lift_lump.proofs.compared.rows_of.Given as goal
 abbrev pub invariant-loop-first : goal.invariant-loop-first
 invariant-loop-first l = record {
   rows : map (λ v. v.items) l.rows.items ≡ map (λ s. quotient_row l.model (blocks_of l.blocks) s ∷ []) (take l.first-index l.blocks.firsts.items);
-  none : AreNone (length l.blocks.firsts.items) l.sums.of_blocks.items l.sums.met.items l.sums.zero;
+  none : AreNone (length l.blocks.firsts.items) l.sums.of_blocks.items l.sums.visited.items l.sums.zero;
 }

@@ -9,7 +9,7 @@ loop-t-init c = record {
   below = c.requires.below;
   are_marked = looked_none c.args.labels.now c.args.block c.args.members.now c.args.marks.now c.requires.unmarked;
   are_numbers = numbers_none (arrows_into c.args.arrows.now) c.args.marks.now c.args.numbers.now c.requires.unmarked c.requires.below c.requires.zero;
-  are_met = λ s lt some. absurd (some (c.requires.zero s));
+  are_visited = λ s lt some. absurd (some (c.requires.zero s));
 }
 
 pub count_in-requires-clause-arrows : goal.count_in-requires-clause-arrows
@@ -25,5 +25,5 @@ loop-t-preserved c =
       below = counted.below;
       are_marked = counted_step (arrows_into c.args.arrows.now) c.args.labels.now c.args.block c.args.members.now c.loop-t.t-index c.loop-t.marks c.count_in.new.marks c.loop-t.numbers c.count_in.new.numbers c.loop-t-test.true c.loop-t.invariant.are_marked counted;
       are_numbers = counted.numbers c.loop-t.invariant.are_numbers;
-      are_met = c.in_ok-count_in.ensures.met c.loop-t.invariant.are_met;
+      are_visited = c.in_ok-count_in.ensures.visited c.loop-t.invariant.are_visited;
     }

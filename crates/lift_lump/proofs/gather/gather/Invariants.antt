@@ -1,5 +1,5 @@
 use Rattle.std.proofs.Common.{◌≡◌, ◌<◌, length, take, All}
-use Rattle.lift_lump.specs.Search.{modulus, AreMet, AreMarked, AreNumbersOf, arrows_into}
+use Rattle.lift_lump.specs.Search.{modulus, AreVisited, AreMarked, AreNumbersOf, arrows_into}
 use Rattle.lift_lump.proofs.gather.gather.Given as goal
 
 abbrev pub invariant-loop-t : goal.invariant-loop-t
@@ -8,5 +8,5 @@ invariant-loop-t l = record {
   below : All (λ n. n < modulus) l.numbers;
   are_marked : AreMarked l.labels l.block (take l.t-index l.members) l.marks;
   are_numbers : AreNumbersOf (arrows_into l.arrows) l.marks l.numbers;
-  are_met : AreMet l.numbers l.met.items;
+  are_visited : AreVisited l.numbers l.visited.items;
 }

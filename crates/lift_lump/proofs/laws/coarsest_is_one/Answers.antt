@@ -15,5 +15,5 @@ returns c =
       numbered = numbered;
       steps = steps_keep numbered;
       one = coarsest_one;
-      told = entries_tell;
+      reported = entries_tell;
     }

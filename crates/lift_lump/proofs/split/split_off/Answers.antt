@@ -43,6 +43,6 @@ returns c =
       few = few_labels after.labels.items (length after.members) c.in_ok-regroup.ensures.used;
       listed = c.in_ok-regroup.ensures.listed;
       size = c.in_ok-regroup.ensures.size;
-      more = c.in_ok-regroup.ensures.more (subst (λ (ts : List Touched). IsBegun ts part.labels.items part.members) (sym c.deref-2.ensures.value) (begun part.labels.items numbers c.args.met.now part.members new c.requires.sizes c.requires.some c.requires.others are c.requires.listed));
+      more = c.in_ok-regroup.ensures.more (subst (λ (ts : List Touched). IsBegun ts part.labels.items part.members) (sym c.deref-2.ensures.value) (begun part.labels.items numbers c.args.visited.now part.members new c.requires.sizes c.requires.some c.requires.others are c.requires.listed));
       numbers = c.in_ok-regroup.ensures.numbers numbers (subst (AreTouched part.labels.items numbers) (sym c.deref-2.ensures.value) are.touched);
     }

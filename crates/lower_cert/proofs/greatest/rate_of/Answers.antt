@@ -1,10 +1,10 @@
-use Rattle.lower_cert.proofs.Settling.{are_picks, is_greatest}
+use Rattle.lower_cert.proofs.Settling.{are_choices, is_greatest}
 use Rattle.lower_cert.proofs.greatest.rate_of.Goals as goal
 
 pub rate-requires : goal.rate-requires
 rate-requires g c =
     rw (c.case.ensures, c.links.ensures, c.weights.ensures)
-    (c.w.ensures.links, (c.requires.0, are_picks c.args.rows.now.case g.spans c.args.lane.now c.args.picks.now c.args.ranks.now c.requires.1.1.ranked))
+    (c.w.ensures.links, (c.requires.0, are_choices c.args.rows.now.case g.spans c.args.lane.now c.args.picks.now c.args.ranks.now c.requires.1.1.ranked))
 
 pub returns-clause-greatest : goal.returns-clause-greatest
 returns-clause-greatest g c =

@@ -3,4 +3,4 @@ use Rattle.lift_model.specs.Model.{ModelData}
 use Rattle.lower_cert.proofs.lower.allow.Goals as goal
 
 pub returns : goal.returns
-returns g c = record { told = λ t b has before. c.loop-s.invariant t b has (inl (omega (arith, has.state, c.loop-s-test.false, c.states-s-end.ensures.value, ap (λ (m : ModelData). length m.states) c.model.ensures))) }
+returns g c = record { flagged = λ t b has before. c.loop-s.invariant t b has (inl (omega (arith, has.state, c.loop-s-test.false, c.states-s-end.ensures.value, ap (λ (m : ModelData). length m.states) c.model.ensures))) }

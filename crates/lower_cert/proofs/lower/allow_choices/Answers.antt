@@ -1,7 +1,7 @@
 use Rattle.std.proofs.Common.{◌≡◌, ◌<◌, ◌≤◌, length, arith}
 use Rattle.lift_model.specs.Model.{choices}
 use Rattle.lift_model.specs.Links.{row_number}
-use Rattle.lower_cert.proofs.Lowering.{told_next, told_state, row_inside}
+use Rattle.lower_cert.proofs.Lowering.{flagged_next, flagged_state, row_inside}
 use Rattle.lower_cert.proofs.lower.allow_choices.Goals as goal
 
 pub loop-a-preserved : goal.loop-a-preserved
@@ -10,10 +10,10 @@ loop-a-preserved g c =
     let row : c.row_place-row.result ≡ row_number k.model c.args.s c.loop-a.a = c.row_place-row.ensures in
     let choice : c.loop-a.a < length (choices k.model c.args.s) = omega (arith, c.loop-a-test.true, c.choice_count-a-end.ensures) in
     let room : row_number k.model c.args.s c.loop-a.a < length c.loop-a.allowed = omega (arith, row_inside k.model.states c.args.s c.loop-a.a choice, c.loop-a.auto.allowed, c.requires.1.1.1.0) in
-    rw row (told_next k g.spans c.args.lane.now c.loop-a.allowed c.args.s c.loop-a.a c.loop-a.invariant c.flag.result room
+    rw row (flagged_next k g.spans c.args.lane.now c.loop-a.allowed c.args.s c.loop-a.a c.loop-a.invariant c.flag.result room
     (λ e. c.is_allowed.ensures.0 (c.flag.ensures.no e), λ h. c.flag.ensures.yes (c.is_allowed.ensures.1 h)))
 
 pub returns : goal.returns
 returns g c =
     let all : length (choices c.args.rows.now.case.model c.args.s) ≤ c.loop-a.a = omega (arith, c.loop-a-test.false, c.choice_count-a-end.ensures) in
-    record { told = told_state c.args.rows.now.case g.spans c.args.lane.now c.loop-a.allowed c.args.s c.loop-a.a c.loop-a.invariant all }
+    record { flagged = flagged_state c.args.rows.now.case g.spans c.args.lane.now c.loop-a.allowed c.args.s c.loop-a.a c.loop-a.invariant all }

@@ -18,6 +18,6 @@ returns g c =
     record {
       sizes = (omega (arith, c.attract.auto.picks, c.requires.1.1.picks), omega (arith, c.attract.auto.ranks, c.requires.1.1.ranks));
       stages = c.ranks_go_by_stages.ensures.test k g.spans (allows k.model c.allow.new.allowed) (number c.args.lane.now) (mark c.attract.new.picks) (mark c.attract.new.ranks)
-          (λ s g a lt. let state = state_of k.model s a lt in c.allow.ensures.told s a (record { state = state; choice = lt }) (inl state)) stages;
+          (λ s g a lt. let state = state_of k.model s a lt in c.allow.ensures.flagged s a (record { state = state; choice = lt }) (inl state)) stages;
       others = others;
     }

@@ -2,7 +2,7 @@ use Rattle.std.specs.List.{concat}
 use Rattle.lift_cost.specs.Decided.{asked}
 use Rattle.lift_cost.specs.Text.{IsTreeText}
 use Rattle.plift_top.specs.Cost.{cost_head}
-use Rattle.plift_top.proofs.HeadedTexts.{head_failed, nodes_told}
+use Rattle.plift_top.proofs.HeadedTexts.{head_failed, nodes_reported}
 use Rattle.plift_top.proofs.cost.write_payment.Goals as goal
 
 pub returns-in_err-write_cost_head : goal.returns-in_err-write_cost_head
@@ -17,6 +17,6 @@ pub returns : goal.returns
 returns g c =
     let k = c.args.question.now.case.now in
     let q = asked c.args.question.now in
-    nodes_told (concat (cost_head k q)) (IsTreeText k q k.root 0) g.K.Sink.taken g.K.Sink.faults c.args.out.now
+    nodes_reported (concat (cost_head k q)) (IsTreeText k q k.root 0) g.K.Sink.taken g.K.Sink.faults c.args.out.now
     c.write_cost_head.new.out c.write_tree.new.out _ c.write_tree.result c.in_ok-write_cost_head.ensures
     c.write_tree.ensures.wrote

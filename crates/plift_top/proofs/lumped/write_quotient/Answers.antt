@@ -1,6 +1,6 @@
 use Rattle.std.proofs.Common.{None, sym, subst, ◌∙◌}
 use Rattle.corner_lift.specs.Case.{CaseData, IsCase}
-use Rattle.plift_words.specs.declared.way.Way.TheVariants.{Whole}
+use Rattle.plift_words.specs.declared.query.Query.TheVariants.{Whole}
 use Rattle.plift_top.specs.Asked.{uncut}
 use Rattle.plift_top.specs.Steps.{IsTestedCase, AnswersCase}
 use Rattle.plift_top.proofs.Lumping.{same_case}

@@ -29,16 +29,16 @@ pub returns-clause-within : goal.returns-clause-within
 returns-clause-within g c e = acts.within g.S.Source.left g.S.Source.faults g.K.Sink.taken g.K.Sink.faults _ _ _ _ _ _ (rw c.deref.ensures.value at c.act-answer.ensures.answer) (rw c.deref.ensures.value at c.act-answer.ensures.limit) (λ f. e (c.end.ensures.status ∙ f))
 
 pub returns-clause-complete : goal.returns-clause-complete
-returns-clause-complete g c j text a root is told read named admitted can len sure1 sure2 =
-    rw c.end.ensures.status (acts.complete g.S.Source.left g.S.Source.faults g.K.Sink.taken g.K.Sink.faults _ _ _ _ j text told len sure1 sure2 c.first_fault_is_one.ensures.none _ _ (rw c.deref.ensures.value at c.act-answer.ensures.answer) is a root read named admitted can)
+returns-clause-complete g c j text a root is reported read named admitted can len sure1 sure2 =
+    rw c.end.ensures.status (acts.complete g.S.Source.left g.S.Source.faults g.K.Sink.taken g.K.Sink.faults _ _ _ _ j text reported len sure1 sure2 c.first_fault_is_one.ensures.none _ _ (rw c.deref.ensures.value at c.act-answer.ensures.answer) is a root read named admitted can)
 
 pub returns-clause-refused : goal.returns-clause-refused
-returns-clause-refused g c j text why is told bad len sure1 sure2 =
-    rw c.end.ensures.status (acts.refused g.S.Source.left g.S.Source.faults g.K.Sink.taken g.K.Sink.faults _ _ _ _ j text told len sure1 sure2 c.first_fault_is_one.ensures.none _ _ (rw c.deref.ensures.value at c.act-answer.ensures.answer) is why bad)
+returns-clause-refused g c j text why is reported bad len sure1 sure2 =
+    rw c.end.ensures.status (acts.refused g.S.Source.left g.S.Source.faults g.K.Sink.taken g.K.Sink.faults _ _ _ _ j text reported len sure1 sure2 c.first_fault_is_one.ensures.none _ _ (rw c.deref.ensures.value at c.act-answer.ensures.answer) is why bad)
 
 pub returns-clause-unadmitted : goal.returns-clause-unadmitted
-returns-clause-unadmitted g c j text a root is told read named bad chain len sure1 sure2 =
-    rw c.end.ensures.status (acts.unadmitted g.S.Source.left g.S.Source.faults g.K.Sink.taken g.K.Sink.faults _ _ _ _ j text told len sure1 sure2 _ _ (rw c.deref.ensures.value at c.act-answer.ensures.answer) is a root read named bad chain)
+returns-clause-unadmitted g c j text a root is reported read named bad chain len sure1 sure2 =
+    rw c.end.ensures.status (acts.unadmitted g.S.Source.left g.S.Source.faults g.K.Sink.taken g.K.Sink.faults _ _ _ _ j text reported len sure1 sure2 _ _ (rw c.deref.ensures.value at c.act-answer.ensures.answer) is a root read named bad chain)
 
 pub returns-clause-part : goal.returns-clause-part
 returns-clause-part g c e = acts.part g.S.Source.left g.S.Source.faults g.K.Sink.taken g.K.Sink.faults _ _ _ _ _ _ (rw c.deref.ensures.value at c.act-answer.ensures.answer) (sym c.end.ensures.status ∙ e)
@@ -52,8 +52,8 @@ returns-clause-unread g c e = acts.unread g.S.Source.left g.S.Source.faults g.K.
 pub returns-clause-silent : goal.returns-clause-silent
 returns-clause-silent g c e = acts.silent g.E.Sink.taken g.E.Sink.faults _ _ _ c.end.ensures.noted (sym c.end.ensures.status ∙ e)
 
-pub returns-clause-told : goal.returns-clause-told
-returns-clause-told g c d = rw c.end.ensures.status (acts.told g.S.Source.left g.S.Source.faults g.K.Sink.taken g.K.Sink.faults _ _ _ _ g.E.Sink.taken g.E.Sink.faults _ _ _ _ (rw c.deref.ensures.value at c.act-answer.ensures.answer) c.end.ensures.noted (λ f. d (c.end.ensures.status ∙ f)))
+pub returns-clause-reported : goal.returns-clause-reported
+returns-clause-reported g c d = rw c.end.ensures.status (acts.reported g.S.Source.left g.S.Source.faults g.K.Sink.taken g.K.Sink.faults _ _ _ _ g.E.Sink.taken g.E.Sink.faults _ _ _ _ (rw c.deref.ensures.value at c.act-answer.ensures.answer) c.end.ensures.noted (λ f. d (c.end.ensures.status ∙ f)))
 
 pub returns-clause-generated : goal.returns-clause-generated
 returns-clause-generated g c e = acts.generated g.S.Source.left g.S.Source.faults g.K.Sink.taken g.K.Sink.faults _ _ _ _ _ _ (rw c.deref.ensures.value at c.act-answer.ensures.answer) (sym c.end.ensures.status ∙ e)
@@ -77,12 +77,12 @@ pub returns-clause-not_sound : goal.returns-clause-not_sound
 returns-clause-not_sound g c e = acts.not_sound g.S.Source.left g.S.Source.faults g.K.Sink.taken g.K.Sink.faults _ _ _ _ c.sound_files_pass.ensures.pass c.answers_are_one.ensures _ _ (rw c.deref.ensures.value at c.act-answer.ensures.answer) (sym c.end.ensures.status ∙ e)
 
 pub returns-clause-check_complete : goal.returns-clause-check_complete
-returns-clause-check_complete g c bytes leaves is told file len sure1 sure2 =
-    rw c.end.ensures.status (acts.check_complete g.S.Source.left g.S.Source.faults g.K.Sink.taken g.K.Sink.faults _ _ _ _ bytes told len sure1 sure2 c.sound_files_pass.ensures.pass c.answers_are_one.ensures _ _ (rw c.deref.ensures.value at c.act-answer.ensures.answer) is leaves file)
+returns-clause-check_complete g c bytes leaves is reported file len sure1 sure2 =
+    rw c.end.ensures.status (acts.check_complete g.S.Source.left g.S.Source.faults g.K.Sink.taken g.K.Sink.faults _ _ _ _ bytes reported len sure1 sure2 c.sound_files_pass.ensures.pass c.answers_are_one.ensures _ _ (rw c.deref.ensures.value at c.act-answer.ensures.answer) is leaves file)
 
 pub returns-clause-check_refused : goal.returns-clause-check_refused
-returns-clause-check_refused g c bytes is told bad len sure1 sure2 =
-    rw c.end.ensures.status (acts.check_refused g.S.Source.left g.S.Source.faults g.K.Sink.taken g.K.Sink.faults _ _ _ _ bytes told len sure1 sure2 _ _ (rw c.deref.ensures.value at c.act-answer.ensures.answer) is bad)
+returns-clause-check_refused g c bytes is reported bad len sure1 sure2 =
+    rw c.end.ensures.status (acts.check_refused g.S.Source.left g.S.Source.faults g.K.Sink.taken g.K.Sink.faults _ _ _ _ bytes reported len sure1 sure2 _ _ (rw c.deref.ensures.value at c.act-answer.ensures.answer) is bad)
 
 pub returns-clause-migrated : goal.returns-clause-migrated
 returns-clause-migrated g c e = acts.migrated g.S.Source.left g.S.Source.faults g.K.Sink.taken g.K.Sink.faults _ _ _ _ _ _ (rw c.deref.ensures.value at c.act-answer.ensures.answer) (sym c.end.ensures.status ∙ e)
@@ -91,12 +91,12 @@ pub returns-clause-migrated_part : goal.returns-clause-migrated_part
 returns-clause-migrated_part g c e = acts.migrated_part g.S.Source.left g.S.Source.faults g.K.Sink.taken g.K.Sink.faults _ _ _ _ _ _ (rw c.deref.ensures.value at c.act-answer.ensures.answer) (sym c.end.ensures.status ∙ e)
 
 pub returns-clause-migrate_complete : goal.returns-clause-migrate_complete
-returns-clause-migrate_complete g c bytes leaves is told file len sure1 sure2 =
-    rw c.end.ensures.status (acts.migrate_complete g.S.Source.left g.S.Source.faults g.K.Sink.taken g.K.Sink.faults _ _ _ _ bytes told len sure1 sure2 c.sound_files_pass.ensures.pass c.answers_are_one.ensures _ _ (rw c.deref.ensures.value at c.act-answer.ensures.answer) is leaves file)
+returns-clause-migrate_complete g c bytes leaves is reported file len sure1 sure2 =
+    rw c.end.ensures.status (acts.migrate_complete g.S.Source.left g.S.Source.faults g.K.Sink.taken g.K.Sink.faults _ _ _ _ bytes reported len sure1 sure2 c.sound_files_pass.ensures.pass c.answers_are_one.ensures _ _ (rw c.deref.ensures.value at c.act-answer.ensures.answer) is leaves file)
 
 pub returns-clause-migrate_refused : goal.returns-clause-migrate_refused
-returns-clause-migrate_refused g c bytes is told bad len sure1 sure2 =
-    rw c.end.ensures.status (acts.migrate_refused g.S.Source.left g.S.Source.faults g.K.Sink.taken g.K.Sink.faults _ _ _ _ bytes told len sure1 sure2 _ _ (rw c.deref.ensures.value at c.act-answer.ensures.answer) is bad)
+returns-clause-migrate_refused g c bytes is reported bad len sure1 sure2 =
+    rw c.end.ensures.status (acts.migrate_refused g.S.Source.left g.S.Source.faults g.K.Sink.taken g.K.Sink.faults _ _ _ _ bytes reported len sure1 sure2 _ _ (rw c.deref.ensures.value at c.act-answer.ensures.answer) is bad)
 
 pub returns-clause-selftested : goal.returns-clause-selftested
 returns-clause-selftested g c e = acts.selftested g.S.Source.left g.S.Source.faults g.K.Sink.taken g.K.Sink.faults _ _ _ _ _ _ (rw c.deref.ensures.value at c.act-answer.ensures.answer) (sym c.end.ensures.status ∙ e)
@@ -135,17 +135,17 @@ pub returns-clause-refined_part : goal.returns-clause-refined_part
 returns-clause-refined_part g c e = acts.refined_part g.S.Source.left g.S.Source.faults g.K.Sink.taken g.K.Sink.faults _ _ _ _ _ _ (rw c.deref.ensures.value at c.act-answer.ensures.answer) (sym c.end.ensures.status ∙ e)
 
 pub returns-clause-refine_complete : goal.returns-clause-refine_complete
-returns-clause-refine_complete g c depth bytes h t is told old fit len sure1 sure2 =
-    rw c.end.ensures.status (acts.refine_complete g.S.Source.left g.S.Source.faults g.K.Sink.taken g.K.Sink.faults _ _ _ _ depth bytes told len sure1 sure2 c.sound_files_pass.ensures.pass c.answers_are_one.ensures c.texts_tell_one_report.ensures h t old c.first_fault_is_one.ensures.none _ _ (rw c.deref.ensures.value at c.act-answer.ensures.answer) is fit)
+returns-clause-refine_complete g c depth bytes h t is reported old fit len sure1 sure2 =
+    rw c.end.ensures.status (acts.refine_complete g.S.Source.left g.S.Source.faults g.K.Sink.taken g.K.Sink.faults _ _ _ _ depth bytes reported len sure1 sure2 c.sound_files_pass.ensures.pass c.answers_are_one.ensures c.texts_tell_one_report.ensures h t old c.first_fault_is_one.ensures.none _ _ (rw c.deref.ensures.value at c.act-answer.ensures.answer) is fit)
 
 pub returns-clause-refine_too_deep : goal.returns-clause-refine_too_deep
-returns-clause-refine_too_deep g c depth bytes h t is told old lacks len sure1 sure2 =
-    rw c.end.ensures.status (acts.refine_too_deep g.S.Source.left g.S.Source.faults g.K.Sink.taken g.K.Sink.faults _ _ _ _ depth bytes told len sure1 sure2 c.sound_files_pass.ensures.pass c.answers_are_one.ensures c.texts_tell_one_report.ensures h t old _ _ (rw c.deref.ensures.value at c.act-answer.ensures.answer) is lacks)
+returns-clause-refine_too_deep g c depth bytes h t is reported old lacks len sure1 sure2 =
+    rw c.end.ensures.status (acts.refine_too_deep g.S.Source.left g.S.Source.faults g.K.Sink.taken g.K.Sink.faults _ _ _ _ depth bytes reported len sure1 sure2 c.sound_files_pass.ensures.pass c.answers_are_one.ensures c.texts_tell_one_report.ensures h t old _ _ (rw c.deref.ensures.value at c.act-answer.ensures.answer) is lacks)
 
 pub returns-clause-refine_unadmitted : goal.returns-clause-refine_unadmitted
-returns-clause-refine_unadmitted g c depth bytes h t is told old fits bad len sure1 sure2 =
-    rw c.end.ensures.status (acts.refine_unadmitted g.S.Source.left g.S.Source.faults g.K.Sink.taken g.K.Sink.faults _ _ _ _ depth bytes told len sure1 sure2 c.sound_files_pass.ensures.pass c.answers_are_one.ensures c.texts_tell_one_report.ensures h t old _ _ (rw c.deref.ensures.value at c.act-answer.ensures.answer) is fits bad)
+returns-clause-refine_unadmitted g c depth bytes h t is reported old fits bad len sure1 sure2 =
+    rw c.end.ensures.status (acts.refine_unadmitted g.S.Source.left g.S.Source.faults g.K.Sink.taken g.K.Sink.faults _ _ _ _ depth bytes reported len sure1 sure2 c.sound_files_pass.ensures.pass c.answers_are_one.ensures c.texts_tell_one_report.ensures h t old _ _ (rw c.deref.ensures.value at c.act-answer.ensures.answer) is fits bad)
 
 pub returns-clause-refine_refused : goal.returns-clause-refine_refused
-returns-clause-refine_refused g c depth bytes is told bad len sure1 sure2 =
-    rw c.end.ensures.status (acts.refine_unsound g.S.Source.left g.S.Source.faults g.K.Sink.taken g.K.Sink.faults _ _ _ _ depth bytes told len sure1 sure2 _ _ (rw c.deref.ensures.value at c.act-answer.ensures.answer) is bad)
+returns-clause-refine_refused g c depth bytes is reported bad len sure1 sure2 =
+    rw c.end.ensures.status (acts.refine_unsound g.S.Source.left g.S.Source.faults g.K.Sink.taken g.K.Sink.faults _ _ _ _ depth bytes reported len sure1 sure2 _ _ (rw c.deref.ensures.value at c.act-answer.ensures.answer) is bad)

@@ -1,7 +1,7 @@
 use Rattle.std.specs.List.{concat}
 use Rattle.property_tree.specs.Text.{IsTreeText}
 use Rattle.plift_top.specs.Property.{property_head}
-use Rattle.plift_top.proofs.HeadedTexts.{head_failed, nodes_told}
+use Rattle.plift_top.proofs.HeadedTexts.{head_failed, nodes_reported}
 use Rattle.plift_top.proofs.property.write_property.Goals as goal
 
 pub returns-in_err-write_property_head : goal.returns-in_err-write_property_head
@@ -18,6 +18,6 @@ returns g c =
     let k = c.args.question.now.case.now in
     let op = c.args.question.now.op in
     let bound = c.args.question.now.bound in
-    nodes_told (concat (property_head k op bound)) (IsTreeText k op bound k.root 0) g.K.Sink.taken g.K.Sink.faults c.args.out.now
+    nodes_reported (concat (property_head k op bound)) (IsTreeText k op bound k.root 0) g.K.Sink.taken g.K.Sink.faults c.args.out.now
     c.write_property_head.new.out c.write_tree.new.out _ c.write_tree.result c.in_ok-write_property_head.ensures
     c.write_tree.ensures.wrote

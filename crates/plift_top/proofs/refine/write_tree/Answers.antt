@@ -12,7 +12,7 @@ refine-requires-clause-base g c =
     offers_one c.bases_are_gone_on_from.ensures.bases c.rectangles_at_depths.ensures.root c.args.question.now.case.now c.args.question.now.bound c.args.old.now.head.now c.args.old.now.nodes.now c.requires.can
 
 pub refine-requires-clause-entries : goal.refine-requires-clause-entries
-refine-requires-clause-entries g c = λ n. same_text c.args.question.now.case.now c.args.question.now.bound c.args.old.now.head.now c.args.old.now.nodes.now c.told_from.result c.requires.can c.told_from.ensures n
+refine-requires-clause-entries g c = λ n. same_text c.args.question.now.case.now c.args.question.now.bound c.args.old.now.head.now c.args.old.now.nodes.now c.reported_from.result c.requires.can c.reported_from.ensures n
 
 pub refine-requires-clause-from : goal.refine-requires-clause-from
 refine-requires-clause-from g c =
@@ -21,6 +21,6 @@ refine-requires-clause-from g c =
 pub returns : goal.returns
 returns g c = λ t old.
     let offered = offers c.bases_are_gone_on_from.ensures.bases c.rectangles_at_depths.ensures.root c.args.question.now.case.now c.args.question.now.bound c.args.old.now.head.now c.args.old.now.nodes.now c.requires.can t old in
-    let w = shown (λ (r : Reporter g.row.K.Denot). r.out.now) c.args.question.now.case.now c.args.question.now.bound t g.K.Sink.taken g.K.Sink.faults _ _ c.refine.result c.from.result (least_precision c.args.old.now.head.now) c.told_from.result c.args.old.now.head.now.from c.from.ensures c.told_from.ensures (c.refine.ensures.walks t [] offered).0 in
+    let w = shown (λ (r : Reporter g.row.K.Denot). r.out.now) c.args.question.now.case.now c.args.question.now.bound t g.K.Sink.taken g.K.Sink.faults _ _ c.refine.result c.from.result (least_precision c.args.old.now.head.now) c.reported_from.result c.args.old.now.head.now.from c.from.ensures c.reported_from.ensures (c.refine.ensures.walks t [] offered).0 in
     let same : c.refine.new.visitor.out.now ≡ c.out-1.given.0 = search rules in
     subst (λ (o : g.row.K.Denot). Shows {V = g.row.K.Denot} (λ refined. IsRefined c.args.question.now.case.now (least_precision c.args.old.now.head.now) c.args.question.now.bound c.args.question.now.case.now.root 0 t refined) g.K.Sink.taken g.K.Sink.faults (node_text c.args.question.now.case.now c.args.old.now.head.now.from) c.args.out.now o c.refine.result) same w

@@ -1,6 +1,6 @@
 use Rattle.std.proofs.Common.{◌≡◌, refl, sym, subst}
 use Rattle.lift_range.specs.Range.{Between}
-use Rattle.plift_words.specs.declared.way.Way.TheVariants.{Whole, Within, Lumped, Property}
+use Rattle.plift_words.specs.declared.query.Query.TheVariants.{Whole, Within, Lumped, Property}
 use Rattle.plift_top.specs.Asked.{uncut, cut}
 use Rattle.plift_top.specs.Steps.{AnswersCase}
 use Rattle.plift_top.specs.declared.question.Question.{Question}

@@ -1,4 +1,4 @@
-use Rattle.plift_words.specs.declared.way.Way.TheVariants.{Cost}
+use Rattle.plift_words.specs.declared.query.Query.TheVariants.{Cost}
 use Rattle.plift_top.proofs.Reading.{answer_short, answer_cut_off}
 use Rattle.plift_top.proofs.verify.write_paid.Goals as goal
 

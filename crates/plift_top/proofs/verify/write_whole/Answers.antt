@@ -1,4 +1,4 @@
-use Rattle.plift_words.specs.declared.way.Way.TheVariants.{Whole}
+use Rattle.plift_words.specs.declared.query.Query.TheVariants.{Whole}
 use Rattle.plift_top.specs.Asked.{uncut}
 use Rattle.plift_top.proofs.Reading.{answer_short, answer_cut_off}
 use Rattle.plift_top.proofs.verify.write_whole.Goals as goal

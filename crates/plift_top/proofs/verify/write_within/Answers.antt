@@ -1,4 +1,4 @@
-use Rattle.plift_words.specs.declared.way.Way.TheVariants.{Within}
+use Rattle.plift_words.specs.declared.query.Query.TheVariants.{Within}
 use Rattle.plift_top.specs.Asked.{uncut}
 use Rattle.plift_top.proofs.Reading.{answer_short, answer_cut_off}
 use Rattle.plift_top.proofs.verify.write_within.Goals as goal

@@ -1,7 +1,7 @@
 use Rattle.std.proofs.Common.{rules, ◌≡◌, ◌<◌, ◌≤◌, ◌*◌, ◌/◌, ◌%◌, ◌^◌, pos, ◌+ℤ◌, ◌-ℤ◌, ◌*ℤ◌, sym, ap, ◌∙◌, subst, w64, to_z, of_z, to_z-of_z, arith}
 use Rattle.lift_poly.proofs.Ring.{linear}
 use Rattle.lift_dual.specs.Property.{IsLowSide, IsHighSide}
-use Rattle.property_tree.proofs.Beside.{IsQuotient, is_quotient, is_whole, quotient_fits, quotient_is, less_fits, and_one, closed_high, apart_high, met_low, met_high}
+use Rattle.property_tree.proofs.Beside.{IsQuotient, is_quotient, is_whole, quotient_fits, quotient_is, less_fits, and_one, closed_high, apart_high, exact_low, exact_high}
 use Rattle.property_tree.proofs.sides.greatest_low.Goals as goal
 
 pub overflow_cast-within : goal.overflow_cast-within
@@ -68,9 +68,9 @@ returns-then-scaled-den-eq0-clause-low c =
     let kind = sym c.is_closed.ensures ∙ c.if-is_closed.false in
     let none : r ≡ 0 = rw (c.from.ensures, c.from-den.ensures, whole) at c.if-scaled-den-eq0.true in
     let is_bound : (pos q *ℤ pos c.args.bound.den) ≡ (pos c.args.bound.num *ℤ pos (2 ^ w)) = omega (arith, linear, quotient.parts, none) in
-    let met : (((pos q -ℤ pos 1) +ℤ pos 1) *ℤ pos c.args.bound.den) ≡ (pos c.args.bound.num *ℤ pos (2 ^ w)) = ap (λ z. z *ℤ pos c.args.bound.den) (and_one q) ∙ is_bound in
+    let exact : (((pos q -ℤ pos 1) +ℤ pos 1) *ℤ pos c.args.bound.den) ≡ (pos c.args.bound.num *ℤ pos (2 ^ w)) = ap (λ z. z *ℤ pos c.args.bound.den) (and_one q) ∙ is_bound in
     let positive : 1 ≤ c.args.bound.den = rw den c.bound.invariant.positive in
-    subst (λ z. IsLowSide c.args.op c.args.bound w z) (sym less) (met_low c.args.bound w positive (pos q -ℤ pos 1) met c.args.op kind)
+    subst (λ z. IsLowSide c.args.op c.args.bound w z) (sym less) (exact_low c.args.bound w positive (pos q -ℤ pos 1) exact c.args.op kind)
 
 pub returns-then-scaled-den-eq0-clause-high : goal.returns-then-scaled-den-eq0-clause-high
 returns-then-scaled-den-eq0-clause-high c =
@@ -89,9 +89,9 @@ returns-then-scaled-den-eq0-clause-high c =
     let kind = sym c.is_closed.ensures ∙ c.if-is_closed.false in
     let none : r ≡ 0 = rw (c.from.ensures, c.from-den.ensures, whole) at c.if-scaled-den-eq0.true in
     let is_bound : (pos q *ℤ pos c.args.bound.den) ≡ (pos c.args.bound.num *ℤ pos (2 ^ w)) = omega (arith, linear, quotient.parts, none) in
-    let met : (((pos q -ℤ pos 1) +ℤ pos 1) *ℤ pos c.args.bound.den) ≡ (pos c.args.bound.num *ℤ pos (2 ^ w)) = ap (λ z. z *ℤ pos c.args.bound.den) (and_one q) ∙ is_bound in
+    let exact : (((pos q -ℤ pos 1) +ℤ pos 1) *ℤ pos c.args.bound.den) ≡ (pos c.args.bound.num *ℤ pos (2 ^ w)) = ap (λ z. z *ℤ pos c.args.bound.den) (and_one q) ∙ is_bound in
     let positive : 1 ≤ c.args.bound.den = rw den c.bound.invariant.positive in
-    subst (λ z. IsHighSide c.args.op c.args.bound w (z +ℤ pos 1)) (sym less) (met_high c.args.bound w positive (pos q -ℤ pos 1) met c.args.op kind)
+    subst (λ z. IsHighSide c.args.op c.args.bound w (z +ℤ pos 1)) (sym less) (exact_high c.args.bound w positive (pos q -ℤ pos 1) exact c.args.op kind)
 
 pub returns-then-scaled-den-eq0-clause-least : goal.returns-then-scaled-den-eq0-clause-least
 returns-then-scaled-den-eq0-clause-least c =

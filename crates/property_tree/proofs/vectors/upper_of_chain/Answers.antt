@@ -3,8 +3,8 @@ use Rattle.property_tree.proofs.Lanes.{lane_is, lane_kept, one_of, pools_kept, p
 use Rattle.region_tree.specs.Decided.{lane}
 use Rattle.property_tree.proofs.vectors.upper_of_chain.Goals as goal
 
-pub pick_first-requires : goal.pick_first-requires
-pick_first-requires g c =
+pub choose_first-requires : goal.choose_first-requires
+choose_first-requires g c =
     let has = pools_kept c.args.finder.now.case.now.model c.args.pools.now c.least_upper_within.new.pools c.least_upper_within.ensures.pools c.requires.1.1.0 in
     rw c.model.ensures.value (ap length c.lane_mut.ensures.value ∙ (one_of c.least_upper_within.new.pools.picks.lanes _ has.picks).1)
 
@@ -18,7 +18,7 @@ returns-clause-pools g c =
       values = same_pool pools.values;
       allowed = same_pool pools.allowed;
       ranks = same_pool pools.ranks;
-      picks = lane_kept c.lanes_stand_alone.ensures.writes pools.picks _ c.lane_mut.result.now c.pick_first.new.picks has.picks c.lane_mut.ensures.value (omega (arith, c.pick_first.auto.picks));
+      picks = lane_kept c.lanes_stand_alone.ensures.writes pools.picks _ c.lane_mut.result.now c.choose_first.new.picks has.picks c.lane_mut.ensures.value (omega (arith, c.choose_first.auto.picks));
       work = same_pool pools.work;
     })
 
@@ -28,8 +28,8 @@ returns-clause-least g c =
     let pools = c.least_upper_within.new.pools in
     let has = pools_kept k.model c.args.pools.now pools c.least_upper_within.ensures.pools c.requires.1.1.0 in
     let found = rw (to_z-of_z c.ranges.limit) at c.least_upper_within.ensures.least in
-    rw (lane_is c.lanes_stand_alone.ensures.writes pools.picks _ c.lane_mut.result.now c.pick_first.new.picks has.picks c.lane_mut.ensures.value (omega (arith, c.pick_first.auto.picks)))
-    (c.chains_have_one_scheduler.ensures.least k g.spans c.args.limit (lane pools.values) c.pick_first.new.picks true c.w.ensures.case c.requires.0.table.inside c.requires.1.1.1 (rw c.if-not-least_upper_within.false at found) (λ done. rw c.model.ensures.value at c.pick_first.ensures))
+    rw (lane_is c.lanes_stand_alone.ensures.writes pools.picks _ c.lane_mut.result.now c.choose_first.new.picks has.picks c.lane_mut.ensures.value (omega (arith, c.choose_first.auto.picks)))
+    (c.chains_have_one_scheduler.ensures.least k g.spans c.args.limit (lane pools.values) c.choose_first.new.picks true c.w.ensures.case c.requires.0.table.inside c.requires.1.1.1 (rw c.if-not-least_upper_within.false at found) (λ done. rw c.model.ensures.value at c.choose_first.ensures))
 
 pub returns-then-not-least_upper_within-clause-least : goal.returns-then-not-least_upper_within-clause-least
 returns-then-not-least_upper_within-clause-least g c =

@@ -6,7 +6,7 @@ use Rattle.robust_rank.proofs.rates.rate.Given as goal
 abbrev pub ghost-rate_of_state : goal.ghost-rate_of_state
 ghost-rate_of_state g a = g.spans
 
--- the least rate of the picks of the states before this one
+-- the least rate of the choices of the states before this one
 abbrev pub invariant-loop-s : goal.invariant-loop-s
 invariant-loop-s g l = record {
   least : IsFirstFrom (IsStateRateBefore l.case g.spans l.ranks l.picks l.s) 0 l.e;

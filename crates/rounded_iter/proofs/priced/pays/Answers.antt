@@ -8,7 +8,7 @@ loop-a-preserved g c =
     let k = c.args.rows.now.case in
     λ b lt. ⊎_elim
     (λ (before : b < c.loop-a.a). c.loop-a.invariant b before)
-    (λ (here : b ≡ c.loop-a.a). subst (λ i. IsPaidFor k g.spans (price k.w c.args.tolls.now) c.args.lane.now c.args.s i) (sym here) (c.pays_choice.ensures.paid c.if-not-pays_choice.false))
+    (λ (here : b ≡ c.loop-a.a). subst (λ i. IsPaidFor k g.spans (price k.w c.args.rewards.now) c.args.lane.now c.args.s i) (sym here) (c.pays_choice.ensures.paid c.if-not-pays_choice.false))
     (one_more b c.loop-a.a lt)
 
 pub returns-clause-paid : goal.returns-clause-paid

@@ -7,4 +7,4 @@ ghost-pays_choice g a = g.spans
 
 -- the choices so far are paid for
 abbrev pub invariant-loop-a : goal.invariant-loop-a
-invariant-loop-a g l = (b : ℕ) → b < l.a → IsPaidFor l.rows.case g.spans (price l.rows.case.w l.tolls) l.lane l.s b
+invariant-loop-a g l = (b : ℕ) → b < l.a → IsPaidFor l.rows.case g.spans (price l.rows.case.w l.rewards) l.lane l.s b

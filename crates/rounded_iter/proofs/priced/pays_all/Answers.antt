@@ -9,7 +9,7 @@ loop-s-preserved g c =
     let k = c.args.rows.now.case in
     λ i lt. ⊎_elim
     (λ (before : i < c.loop-s.s). c.loop-s.invariant i before)
-    (λ (here : i ≡ c.loop-s.s). subst (λ j. IsCutOff k c.args.lane.now j → IsPaid k g.spans (price k.w c.args.tolls.now) c.args.lane.now j) (sym here) (c.pays_cut_off.ensures.paid c.if-not-pays_cut_off.false))
+    (λ (here : i ≡ c.loop-s.s). subst (λ j. IsCutOff k c.args.lane.now j → IsPaid k g.spans (price k.w c.args.rewards.now) c.args.lane.now j) (sym here) (c.pays_cut_off.ensures.paid c.if-not-pays_cut_off.false))
     (one_more i c.loop-s.s lt)
 
 pub returns-clause-paid : goal.returns-clause-paid

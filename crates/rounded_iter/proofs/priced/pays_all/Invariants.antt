@@ -6,4 +6,4 @@ ghost-pays_cut_off g a = g.spans
 
 -- the states so far are paid for
 abbrev pub invariant-loop-s : goal.invariant-loop-s
-invariant-loop-s g l = ArePaid l.rows.case g.spans (price l.rows.case.w l.tolls) l.lane l.s
+invariant-loop-s g l = ArePaid l.rows.case g.spans (price l.rows.case.w l.rewards) l.lane l.s

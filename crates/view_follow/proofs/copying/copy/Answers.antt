@@ -12,7 +12,7 @@ loop-reads-init g c = record {
   long = omega arith;
   read_well = refl;
   written_well = refl;
-  told = ([], Consumes-nil _, passes_nothing g.E.Sink.taken g.E.Sink.faults _ _);
+  reported = ([], Consumes-nil _, passes_nothing g.E.Sink.taken g.E.Sink.faults _ _);
 }
 
 pub returns-in-Failed-clause-copied : goal.returns-in-Failed-clause-copied
@@ -27,19 +27,19 @@ returns-in_err-write_all-in-Bytes-clause-copied g c =
     let wrote = c.in_err-write_all-in-Bytes.ensures.wrote in
     cut g.S.Source.left g.S.Source.faults g.K.Sink.taken g.K.Sink.faults _ _ _ _ c.from_residual.result c.from_residual.ensures.1 (in_part _ _ _ _ _ _ _ so_far.copied c.in-Bytes.ensures.1 wrote.part) (subst (λ (n : ℕ). Rose n (g.K.Sink.faults c.write_all.new.out)) so_far.written_well wrote.cause)
 
-pub returns-in-Failed-clause-told : goal.returns-in-Failed-clause-told
-returns-in-Failed-clause-told g c =
-    let told = c.loop-reads.invariant.told in
-    (told.0, Consumes-kept _ _ _ _ told.1 c.in-Failed.ensures.0, told.2)
+pub returns-in-Failed-clause-reported : goal.returns-in-Failed-clause-reported
+returns-in-Failed-clause-reported g c =
+    let reported = c.loop-reads.invariant.reported in
+    (reported.0, Consumes-kept _ _ _ _ reported.1 c.in-Failed.ensures.0, reported.2)
 
-pub returns-in_err-write_all-in-Bytes-clause-told : goal.returns-in_err-write_all-in-Bytes-clause-told
-returns-in_err-write_all-in-Bytes-clause-told g c =
-    let told = c.loop-reads.invariant.told in
+pub returns-in_err-write_all-in-Bytes-clause-reported : goal.returns-in_err-write_all-in-Bytes-clause-reported
+returns-in_err-write_all-in-Bytes-clause-reported g c =
+    let reported = c.loop-reads.invariant.reported in
     let read = c.in-Bytes.ensures in
     let same = c.read.auto.buf in
     let part : length (take c.in-Bytes.count c.read.new.buf) ≡ c.in-Bytes.count = length-take-le c.in-Bytes.count c.read.new.buf read.0 in
     let short : length (take c.in-Bytes.count c.read.new.buf) ≤ 4096 = omega arith in
-    passed_but_last g.S.Source.left _ _ _ c.from_residual.result c.from_residual.ensures.1 told.0 (take c.in-Bytes.count c.read.new.buf) (Consumes-trans _ _ _ _ _ told.1 read.1) short told.2
+    passed_but_last g.S.Source.left _ _ _ c.from_residual.result c.from_residual.ensures.1 reported.0 (take c.in-Bytes.count c.read.new.buf) (Consumes-trans _ _ _ _ _ reported.1 read.1) short reported.2
 
 pub loop-reads-preserved : goal.loop-reads-preserved
 loop-reads-preserved g c =
@@ -55,5 +55,5 @@ loop-reads-preserved g c =
       long = omega arith;
       read_well = read.3 ∙ so_far.read_well;
       written_well = wrote.calm ∙ so_far.written_well;
-      told = (so_far.told.0 ++ piece, Consumes-trans _ _ _ _ _ so_far.told.1 read.1, passes_both g.E.Sink.taken g.E.Sink.faults _ _ _ _ _ _ _ _ so_far.told.2 c.pass.ensures);
+      reported = (so_far.reported.0 ++ piece, Consumes-trans _ _ _ _ _ so_far.reported.1 read.1, passes_both g.E.Sink.taken g.E.Sink.faults _ _ _ _ _ _ _ _ so_far.reported.2 c.pass.ensures);
     }

@@ -10,5 +10,5 @@ invariant-loop-reads g l = record {
   long : l.reads ≤ length copied.0;
   read_well : g.S.Source.faults l.source ≡ g.S.Source.faults l.fn.source;
   written_well : g.K.Sink.faults l.out ≡ g.K.Sink.faults l.fn.out;
-  told : TakenHas (Passes g.E.Sink.taken g.E.Sink.faults l.fn.notes l.notes l.fn.progress l.progress) (g.S.Source.left l.fn.source) (g.S.Source.left l.source);
+  reported : TakenHas (Passes g.E.Sink.taken g.E.Sink.faults l.fn.notes l.notes l.fn.progress l.progress) (g.S.Source.left l.fn.source) (g.S.Source.left l.source);
 }

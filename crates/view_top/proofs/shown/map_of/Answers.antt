@@ -11,7 +11,7 @@ returns-in_err-read_map g c =
     let read = c.in_ok-text.ensures.bytes in
     let size = read.2 in
     let small : length c.in_ok-text.text.items ≤ file_limit = omega (arith, size, c.in_ok-text.text.ok.0) in
-    refused g.S.Source.left g.S.Source.faults _ _ c.in_ok-text.text.items read.0 read.1 small _ c.from_residual-in_err-read_map.result c.from_residual-in_err-read_map.ensures.1 (rw c.deref.ensures.value at c.in_err-read_map.ensures.refused) c.in_err-read_map.ensures.told
+    refused g.S.Source.left g.S.Source.faults _ _ c.in_ok-text.text.items read.0 read.1 small _ c.from_residual-in_err-read_map.result c.from_residual-in_err-read_map.ensures.1 (rw c.deref.ensures.value at c.in_err-read_map.ensures.refused) c.in_err-read_map.ensures.reported
 
 pub returns : goal.returns
 returns g c =

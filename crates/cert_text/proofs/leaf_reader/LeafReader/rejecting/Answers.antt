@@ -3,7 +3,7 @@ use Rattle.line_text.specs.declared.error.TextCause.TheVariants.{Syntax}
 use Rattle.line_text.specs.Reading.{◌>>=◌, Cursor, at, line_at}
 use Rattle.line_text.specs.Parts.{must}
 use Rattle.line_text.specs.declared.error.FileError.TheVariants as file
-use Rattle.line_text.specs.Follow.{place, told_fault}
+use Rattle.line_text.specs.Follow.{place, reported_fault}
 use Rattle.cert_text.specs.Lines.{values_of, marks_of}
 use Rattle.cert_text.specs.Leaf.{rejected_of}
 use Rattle.cert_text.specs.Nodes.{Node, reject, fits_leaf, rejecting_at}
@@ -44,7 +44,7 @@ returns-then-not-fits_leaf g c =
     let bad : fits_leaf c.args.self.now (rejected_of c.args.rejected.now) c.in_ok-y.y.items c.in_ok-picks.picks.items c.in_ok-ranks.ranks.items ≡ false = search rules in
     let lines = c.ranks_line.new.lines in
     let number : lines.given + 1 - 4 ≡ c.args.lines.now.given = omega (arith, c.in_ok-y.ensures.given, c.in_ok-picks.ensures.given, c.in_ok-ranks.ensures.given) in
-    tail adds _ s3 (refused adds (λ (p : Cursor). at (p.0 - 4) (must (fits_leaf c.args.self.now (rejected_of c.args.rejected.now) c.in_ok-y.y.items c.in_ok-picks.picks.items c.in_ok-ranks.ranks.items) Syntax) >>= λ _. Ok (reject c.args.self.now.asked.w (record { numbers = c.in_ok-y.y.items; picks = c.in_ok-picks.picks.items; ranks = c.in_ok-ranks.ranks.items; e = c.args.rejected.now.e; k = c.args.rejected.now.k }), p)) lines c.ranks_line.new.src c.args.misfit (record { line = lines.given + 1 - 4; cause = Syntax }) none (λ later. ap (λ (fit : Bool). at (lines.given + 1 - 4) (must fit Syntax) >>= λ _. Ok (reject c.args.self.now.asked.w (record { numbers = c.in_ok-y.y.items; picks = c.in_ok-picks.picks.items; ranks = c.in_ok-ranks.ranks.items; e = c.args.rejected.now.e; k = c.args.rejected.now.k }), place lines later)) bad) (c.requires.misfit ∙ ap (λ (n : ℕ). file.Text (told_fault (record { line = n; cause = Syntax }))) (sym number)))
+    tail adds _ s3 (refused adds (λ (p : Cursor). at (p.0 - 4) (must (fits_leaf c.args.self.now (rejected_of c.args.rejected.now) c.in_ok-y.y.items c.in_ok-picks.picks.items c.in_ok-ranks.ranks.items) Syntax) >>= λ _. Ok (reject c.args.self.now.asked.w (record { numbers = c.in_ok-y.y.items; picks = c.in_ok-picks.picks.items; ranks = c.in_ok-ranks.ranks.items; e = c.args.rejected.now.e; k = c.args.rejected.now.k }), p)) lines c.ranks_line.new.src c.args.misfit (record { line = lines.given + 1 - 4; cause = Syntax }) none (λ later. ap (λ (fit : Bool). at (lines.given + 1 - 4) (must fit Syntax) >>= λ _. Ok (reject c.args.self.now.asked.w (record { numbers = c.in_ok-y.y.items; picks = c.in_ok-picks.picks.items; ranks = c.in_ok-ranks.ranks.items; e = c.args.rejected.now.e; k = c.args.rejected.now.k }), place lines later)) bad) (c.requires.misfit ∙ ap (λ (n : ℕ). file.Text (reported_fault (record { line = n; cause = Syntax }))) (sym number)))
 
 pub returns : goal.returns
 returns g c =

@@ -7,6 +7,6 @@ use Rattle.drn_read.proofs.model_lines.ModelReader.begin_choice.Goals as goal
 
 pub returns-in_err-test_choice-clause-fault : goal.returns-in_err-test_choice-clause-fault
 returns-in_err-test_choice-clause-fault c =
-    let told : c.from_residual.result ≡ Err c.in_err-test_choice.field-0.0 = search rules in
+    let reported : c.from_residual.result ≡ Err c.in_err-test_choice.field-0.0 = search rules in
     let fault : choice_fault c.args.header.now.kind c.args.self.now ≡ Some c.in_err-test_choice.field-0.0 = search rules in
-    rw told (λ ne. ap (λ (o : Option DrnCause). first_of (o ∷ name_and_group_fault (left c.args.words) ∷ [])) fault)
+    rw reported (λ ne. ap (λ (o : Option DrnCause). first_of (o ∷ name_and_group_fault (left c.args.words) ∷ [])) fault)

@@ -2,7 +2,7 @@ use Rattle.std.proofs.Common.{suc, ◌<◌, ◌≤◌, get_or, All, subst, ◌�
 use Rattle.lift_model.specs.Links.{states_before}
 use Rattle.corner_lift.specs.Certificate.{mark}
 use Rattle.lift_dual.specs.Ranking.{IsLookedOfAll, IsCompleteOfAll, IsGatheringOfAll}
-use Rattle.lift_dual.proofs.Picking.{one_more}
+use Rattle.lift_dual.proofs.Choosing.{one_more}
 use Rattle.lift_dual.proofs.Ranking.{small_stage, stage_done, gathering_begins, still_looked}
 use Rattle.lift_dual.proofs.ranks.NextStage.add_all.Goals as goal
 

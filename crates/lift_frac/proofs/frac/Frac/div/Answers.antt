@@ -15,8 +15,8 @@ returns-clause-zero c =
     let num = exact_product c.args.self.num c.args.other.den c.args.self.small_num c.args.other.small_den in
     let den = exact_product c.args.self.den c.args.other.num c.args.self.small_den c.args.other.small_num in
     let answer = rw (num, den) at c.reduced.ensures.answer in
-    let told = fraction-zero (c.args.self.num *ℤ c.args.other.den) (c.args.self.den *ℤ c.args.other.num) in
-    (λ e. absurd (told (sym answer ∙ ap answer_of e)), λ e. absurd (c.if-other-eq0.false (ap (of_z w128) e)))
+    let reported = fraction-zero (c.args.self.num *ℤ c.args.other.den) (c.args.self.den *ℤ c.args.other.num) in
+    (λ e. absurd (reported (sym answer ∙ ap answer_of e)), λ e. absurd (c.if-other-eq0.false (ap (of_z w128) e)))
 
 pub returns-clause-answer : goal.returns-clause-answer
 returns-clause-answer c =

@@ -45,14 +45,14 @@ returns-then-is_empty-clause-found c =
     let size : length labels ≡ length m.states = c.in_ok-search.ensures.size ∙ work.size in
     let above = c.in_ok-search.ensures.kept m work.marks.0 work.valid (sym work.size) work.marks.1 work.above in
     let numbered = subst (λ n. AreNumbered n p) (ap length c.deref.ensures.value ∙ size) c.in_ok-blocks.ensures.numbered in
-    let same = subst (λ (ls : List ℕ). AreSameBlocks ls p.of_states) c.deref.ensures.value c.in_ok-blocks.ensures.told in
+    let same = subst (λ (ls : List ℕ). AreSameBlocks ls p.of_states) c.deref.ensures.value c.in_ok-blocks.ensures.reported in
     let different = c.in_ok-compared.compared.different in
     let none : different.items ≡ [] = list_none different.items (sym different.ok.0 ∙ empty_is c.is_empty.result different.len c.is_empty.ensures c.if-is_empty.true) in
     let numbers = c.in_ok-compared.compared.numbers.items in
     let texts = c.in_ok-compared.compared.texts in
     let compared = subst (λ (ds : List ℕ). AreCompared m p (length m.states) numbers ds texts) none c.in_ok-compared.ensures.compared in
     record {
-      coarsest = none_differs m labels p work.valid size numbered same above laws.polynomial laws.coefficients laws.unique c.coarsest_is_one.ensures.told numbers texts compared;
+      coarsest = none_differs m labels p work.valid size numbered same above laws.polynomial laws.coefficients laws.unique c.coarsest_is_one.ensures.reported numbers texts compared;
       numbered = numbered;
       rows = c.in_ok-rows.ensures.rows;
     }
@@ -66,7 +66,7 @@ split_off-requires-clause-none c =
     let size : length labels ≡ length m.states = c.in_ok-search.ensures.size ∙ work.size in
     let above = c.in_ok-search.ensures.kept m work.marks.0 work.valid (sym work.size) work.marks.1 work.above in
     let numbered = subst (λ n. AreNumbered n p) (ap length c.deref.ensures.value ∙ size) c.in_ok-blocks.ensures.numbered in
-    let same = subst (λ (ls : List ℕ). AreSameBlocks ls p.of_states) c.deref.ensures.value c.in_ok-blocks.ensures.told in
+    let same = subst (λ (ls : List ℕ). AreSameBlocks ls p.of_states) c.deref.ensures.value c.in_ok-blocks.ensures.reported in
     subst (HaveNone labels) (sym c.deref-2.ensures.value) (least_none m labels p work.valid size numbered same above c.in_ok-compared.compared.numbers.items c.in_ok-compared.compared.different.items c.in_ok-compared.compared.texts c.in_ok-compared.ensures.compared)
 
 pub split_off-requires-clause-states : goal.split_off-requires-clause-states
@@ -82,7 +82,7 @@ returns-clause-kept c =
     let size : length labels ≡ length m.states = c.in_ok-search.ensures.size ∙ work.size in
     let above = c.in_ok-search.ensures.kept m work.marks.0 work.valid (sym work.size) work.marks.1 work.above in
     let numbered = subst (λ n. AreNumbered n p) (ap length c.deref.ensures.value ∙ size) c.in_ok-blocks.ensures.numbered in
-    let same = subst (λ (ls : List ℕ). AreSameBlocks ls p.of_states) c.deref.ensures.value c.in_ok-blocks.ensures.told in
+    let same = subst (λ (ls : List ℕ). AreSameBlocks ls p.of_states) c.deref.ensures.value c.in_ok-blocks.ensures.reported in
     let numbers = c.in_ok-compared.compared.numbers.items in
     let new = labelled c.split_off.new.part.labels.items in
     let by_number = subst (λ n. IsByNumber n (labelled labels) numbers new) size (subst (λ (ns : List ℕ). IsByNumber (length labels) (labelled labels) ns new) c.deref-2.ensures.value c.in_ok-split_off.ensures.numbers) in

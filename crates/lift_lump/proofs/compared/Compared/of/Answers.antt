@@ -5,15 +5,15 @@ use Rattle.lift_model.specs.declared.entry.Entry.{Entry}
 use Rattle.lift_model.specs.Model.{ModelData}
 use Rattle.lift_lump.specs.declared.compared.Compared.{Compared}
 use Rattle.lift_lump.specs.Quotient.{Blocks, quotient_row}
-use Rattle.lift_lump.specs.Comparing.{blocks_of, IsLike, IsTold, AreCompared, row_text}
+use Rattle.lift_lump.specs.Comparing.{blocks_of, IsLike, IsNumbered, AreCompared, row_text}
 use Rattle.lift_lump.specs.Search.{number_at}
-use Rattle.lift_lump.proofs.Likening.{AreLooked, compared_none, looked_same, looked_told}
+use Rattle.lift_lump.proofs.Likening.{AreLooked, compared_none, looked_same, looked_numbered}
 use Rattle.lift_lump.proofs.compared.Compared.of.Goals as goal
 
 looked_step : (m : ModelData) (p : Blocks) (count : ℕ) (old new : Compared) (other : Option (Vec Entry Global)) → count < length m.states → IfNone other (IsLike m p count) → IfSome other (λ _. IsLike m p count → ⊥) → IfSome other (λ row. row.items ≡ quotient_row m p count)
-    → IfNone other (new ≡ old) → IfSome other (λ row. IsTold count (row_text row.items) old new) → AreLooked m p count old → AreLooked m p (count + 1) new
-looked_step m p count old new None lt like unlike row same told are = subst (AreLooked m p (count + 1)) (sym same) (looked_same m p count old like are)
-looked_step m p count old new (Some row) lt like unlike row_is same told are = looked_told m p count old new (row_text row.items) lt unlike (ap row_text row_is) told are
+    → IfNone other (new ≡ old) → IfSome other (λ row. IsNumbered count (row_text row.items) old new) → AreLooked m p count old → AreLooked m p (count + 1) new
+looked_step m p count old new None lt like unlike row same reported are = subst (AreLooked m p (count + 1)) (sym same) (looked_same m p count old like are)
+looked_step m p count old new (Some row) lt like unlike row_is same reported are = looked_numbered m p count old new (row_text row.items) lt unlike (ap row_text row_is) reported are
 
 pub loop-s-init : goal.loop-s-init
 loop-s-init c =
@@ -39,7 +39,7 @@ loop-s-preserved c =
     let end = c.states-s-end.ensures.value in
     let test = c.loop-s-test.true in
     record {
-      looked = looked_step m p c.loop-s.s c.loop-s.compared c.note.new.self c.in_ok-other.other (omega (arith, end, test)) c.in_ok-other.ensures.like c.in_ok-other.ensures.other c.in_ok-other.ensures.row c.in_ok-note.ensures.same c.in_ok-note.ensures.told c.loop-s.invariant.looked;
+      looked = looked_step m p c.loop-s.s c.loop-s.compared c.note.new.self c.in_ok-other.other (omega (arith, end, test)) c.in_ok-other.ensures.like c.in_ok-other.ensures.other c.in_ok-other.ensures.row c.in_ok-note.ensures.same c.in_ok-note.ensures.reported c.loop-s.invariant.looked;
       none = c.in_ok-other.ensures.none;
     }
 

@@ -2,7 +2,7 @@ use Rattle.std.proofs.Common.{◌≡◌, ◌+◌, ◌<◌, List, ℕ, All, lengt
 use Rattle.lift_model.specs.declared.entry.Entry.{Entry}
 use Rattle.lift_lump.specs.Search.{number_at}
 use Rattle.lift_lump.specs.Summing.{entries_of, AreNone}
-use Rattle.lift_lump.proofs.Adding.{AreSumsOf, sums_none, sums_more, sums_all, met_none}
+use Rattle.lift_lump.proofs.Adding.{AreSumsOf, sums_none, sums_more, sums_all, visited_none}
 use Rattle.lift_lump.proofs.sums.Sums.entries.Goals as goal
 
 pub loop-entry-init : goal.loop-entry-init
@@ -10,7 +10,7 @@ loop-entry-init c =
     let self = c.args.self.now in
     record {
       sums = sums_none (number_at c.args.blocks.now) c.args.row.now self.of_blocks.items c.requires.none.none;
-      met = met_none self.of_blocks.items c.requires.none.none self.met.items c.requires.none.met;
+      visited = visited_none self.of_blocks.items c.requires.none.none self.visited.items c.requires.none.visited;
       zero = c.requires.none.zero;
     }
 
@@ -39,7 +39,7 @@ loop-entry-preserved c =
     record {
       sums = subst (AreSumsOf (number_at blocks) row (i + 1) count) (sym c.in_ok-add.ensures.sums)
           (sums_more laws.polynomial laws.coefficients laws.unique (number_at blocks) row i count entry old c.loop-entry-test.true (sym c.entry-item.is) low c.loop-entry.invariant.sums);
-      met = c.in_ok-add.ensures.met;
+      visited = c.in_ok-add.ensures.visited;
       zero = c.in_ok-add.ensures.zero ∙ c.loop-entry.invariant.zero;
     }
 
@@ -52,5 +52,5 @@ returns c =
     let size = c.loop-entry.invariant.sums.size in
     record {
       entries = c.in_ok-entries.ensures.entries ∙ ap (entries_of sums) size ∙ sums_all (number_at blocks) row c.loop-entry.entry-index count sums c.loop-entry-test.false c.loop-entry.invariant.sums;
-      none = subst (λ n. AreNone n c.take.new.self.of_blocks.items c.take.new.self.met.items c.take.new.self.zero) size c.in_ok-entries.ensures.none;
+      none = subst (λ n. AreNone n c.take.new.self.of_blocks.items c.take.new.self.visited.items c.take.new.self.zero) size c.in_ok-entries.ensures.none;
     }

@@ -8,11 +8,11 @@ use Rattle.lift_poly.proofs.multi_affine.MultiAffine.add_few.Goals as goal
 pub returns-in_err-add_term-clause-answer : goal.returns-in_err-add_term-clause-answer
 returns-in_err-add_term-clause-answer c = λ some.
     let right = c.deref-term-items.result.now in
-    let told : c.from_residual.result ≡ Err c.in_err-add_term.field-0.0 = search rules in
-    let causes = c.in_err-add_term.ensures.causes (λ e. some (told ∙ ap Err e)) in
+    let reported : c.from_residual.result ≡ Err c.in_err-add_term.field-0.0 = search rules in
+    let causes = c.in_err-add_term.ensures.causes (λ e. some (reported ∙ ap Err e)) in
     let wide = added_wide c.self.inside.terms.items right c.loop-term.terms.items c.loop-term.term-index (0, pos 0) c.loop-term-test.true
     (subst IsMultiAffine (sym c.deref-term-items.ensures.value) c.other.invariant) c.loop-term.invariant causes.1 in
-    told ∙ ap Err causes.0 ∙ sym (ap narrow (sym (ap₂ sum c.self.view_is (c.deref-term-items.ensures.value ∙ c.other.view_is))) ∙ narrow_wide (sum c.self.inside.terms.items right) wide)
+    reported ∙ ap Err causes.0 ∙ sym (ap narrow (sym (ap₂ sum c.self.view_is (c.deref-term-items.ensures.value ∙ c.other.view_is))) ∙ narrow_wide (sum c.self.inside.terms.items right) wide)
 
 pub loop-term-preserved : goal.loop-term-preserved
 loop-term-preserved c =

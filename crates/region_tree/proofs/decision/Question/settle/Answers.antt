@@ -102,9 +102,9 @@ returns-then-is_decided-2-clause-decided g c =
     let k = task.case.now in
     let l = c.loop-low in
     let kept = l.invariant in
-    let met : l.low ≡ l.high = omega (arith, kept.high, c.loop-low-test.false) in
+    let converged : l.low ≡ l.high = omega (arith, kept.high, c.loop-low-test.false) in
     let some : l.found ≡ Unknown → ⊥ = λ e. true≢false (c.if-is_decided-2.ensures.decided e) in
-    decided_over k task.from g.spans task.bound l.high (lane l.pools.values) (lane l.pools.picks) (lane l.pools.ranks) l.found (omega (arith, kept.from, kept.high)) kept.most (subst (λ n. AreOpenBelow k task.from g.spans task.bound n) met kept.below) some kept.held
+    decided_over k task.from g.spans task.bound l.high (lane l.pools.values) (lane l.pools.picks) (lane l.pools.ranks) l.found (omega (arith, kept.from, kept.high)) kept.most (subst (λ n. AreOpenBelow k task.from g.spans task.bound n) converged kept.below) some kept.held
 
 pub decide_at-requires : goal.decide_at-requires
 decide_at-requires g c =
@@ -123,7 +123,7 @@ returns-clause-decided g c =
     let found = c.decide_at.result in
     let l = c.loop-low in
     let kept = l.invariant in
-    let met : l.low ≡ l.high = omega (arith, kept.high, c.loop-low-test.false) in
+    let converged : l.low ≡ l.high = omega (arith, kept.high, c.loop-low-test.false) in
     let h = c.decide_at.ensures.decided in
     let some : found ≡ Unknown → ⊥ = λ e. kept.top (open_here k g.spans task.bound l.high (lane new.values) (lane new.picks) (lane new.ranks) found h e) in
-    decided_over k task.from g.spans task.bound l.high (lane new.values) (lane new.picks) (lane new.ranks) found (omega (arith, kept.from, kept.high)) kept.most (subst (λ n. AreOpenBelow k task.from g.spans task.bound n) met kept.below) some (is_held k g.spans task.bound l.high (lane new.values) (lane new.picks) (lane new.ranks) found h)
+    decided_over k task.from g.spans task.bound l.high (lane new.values) (lane new.picks) (lane new.ranks) found (omega (arith, kept.from, kept.high)) kept.most (subst (λ n. AreOpenBelow k task.from g.spans task.bound n) converged kept.below) some (is_held k g.spans task.bound l.high (lane new.values) (lane new.picks) (lane new.ranks) found h)

@@ -4,7 +4,7 @@ use Rattle.corner_lift.specs.Case.{IsInside}
 use Rattle.region_tree.specs.Decided.{lane}
 use Rattle.region_tree.specs.Recent.{Notes}
 use Rattle.region_tree.proofs.Lanes.{inside_ends}
-use Rattle.region_tree.proofs.Meeting.{certified_too, foretold_is_sound}
+use Rattle.region_tree.proofs.Meeting.{certified_too, inferred_is_sound}
 use Rattle.region_tree.proofs.task.Task.decide_next.Goals as goal
 
 pub outlook-outlook-requires : goal.outlook-outlook-requires
@@ -19,10 +19,10 @@ decide_by-verdict-requires c =
     let k = c.args.self.now.case.now in
     let lanes = c.args.lanes.now in
     let decided : c.lanes.inside.decided ≡ lanes.decided = ap (λ l. l.decided) c.lanes.view_is in
-    let told = rw decided at c.outlook-outlook.ensures in
+    let reported = rw decided at c.outlook-outlook.ensures in
     let sides = c.requires.sides in
     let inside : IsInside k.root (spans_of c.args.sides.now) = record { rectangle = sides.rectangle.spans; within = sides.within } in
-    let sound = foretold_is_sound c.certificates_are_of_one_kind.ensures.shared c.ranks_fit.ensures.any k c.w.ensures.case c.args.self.now.bound lanes.decided c.requires.known (spans_of c.args.sides.now) inside c.outlook-outlook.result told in
+    let sound = inferred_is_sound c.certificates_are_of_one_kind.ensures.shared c.ranks_fit.ensures.any k c.w.ensures.case c.args.self.now.bound lanes.decided c.requires.known (spans_of c.args.sides.now) inside c.outlook-outlook.result reported in
     (refl, (c.requires.links, (c.requires.lanes, (c.requires.sides, (c.requires.from, sound)))))
 
 pub note-requires : goal.note-requires

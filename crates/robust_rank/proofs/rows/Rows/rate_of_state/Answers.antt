@@ -8,7 +8,7 @@ use Rattle.robust_rank.proofs.rows.Rows.rate_of_state.Goals as goal
 
 pub rate_of_row-requires : goal.rate_of_row-requires
 rate_of_row-requires g c =
-    let picked : c.mark_of-pick.result < unmarked = omega arith in
+    let chosen : c.mark_of-pick.result < unmarked = omega arith in
     let there : mark c.args.picks.now c.args.s < unmarked = omega (arith, c.mark_of-pick.ensures) in
     let row : HasChoice c.args.self.now.case.now.model c.args.s c.mark_of-pick.result = record { state = c.requires.1.1.1.0; choice = rw c.mark_of-pick.ensures (c.requires.1.1.0.in_range c.args.s there) } in
     let leads = subst (λ a. LeadsBelow c.args.self.now.case.now g.spans (mark c.args.ranks.now) (mark c.args.ranks.now c.args.s) c.args.s a) (sym c.mark_of-pick.ensures) (c.requires.1.1.0.leads c.args.s there) in
@@ -31,7 +31,7 @@ returns-in-Some-clause-least g c =
     let found = c.in-Some.ensures.least in
     record {
       from = found.from;
-      holds = λ picked. subst (λ a. IsRowRate c.args.self.now.case.now g.spans c.args.ranks.now c.args.s a c.in-Some.rate) (sym first) found.holds;
+      holds = λ chosen. subst (λ a. IsRowRate c.args.self.now.case.now g.spans c.args.ranks.now c.args.s a c.in-Some.rate) (sym first) found.holds;
       least = λ m le enough. found.least m le (subst (λ a. IsRowRate c.args.self.now.case.now g.spans c.args.ranks.now c.args.s a m) first (enough there));
     }
 
@@ -42,6 +42,6 @@ returns-in-None-clause-least g c =
     let same = c.mark_of-pick.ensures in
     record {
       from = found.from;
-      holds = λ picked. subst (λ a. IsRowRate c.args.self.now.case.now g.spans c.args.ranks.now c.args.s a c.rate_of_row.result) same found.holds;
+      holds = λ chosen. subst (λ a. IsRowRate c.args.self.now.case.now g.spans c.args.ranks.now c.args.s a c.rate_of_row.result) same found.holds;
       least = λ m le enough. found.least m le (subst (λ a. IsRowRate c.args.self.now.case.now g.spans c.args.ranks.now c.args.s a m) (sym same) (enough there));
     }

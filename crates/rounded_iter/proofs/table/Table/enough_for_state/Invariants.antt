@@ -1,4 +1,4 @@
-use Rattle.rounded_iter.specs.Rising.{IsSolvedBy, untolled}
+use Rattle.rounded_iter.specs.Rising.{IsSolvedBy, unrewarded}
 use Rattle.rounded_iter.proofs.table.Table.enough_for_state.Given as goal
 
 abbrev pub ghost-enough : goal.ghost-enough
@@ -6,4 +6,4 @@ ghost-enough g a = g.spans
 
 -- the choices so far were tried
 abbrev pub invariant-loop-a : goal.invariant-loop-a
-invariant-loop-a g l = IsSolvedBy (untolled l.self.rule) l.self.case g.spans l.lane l.s l.a l.number
+invariant-loop-a g l = IsSolvedBy (unrewarded l.self.rule) l.self.case g.spans l.lane l.s l.a l.number

@@ -12,10 +12,10 @@ pub returns-then-is_held : goal.returns-then-is_held
 returns-then-is_held g c = raised_given c.args.self.now g.run c.args.lane.now c.args.s c.requires (c.is_held.ensures.held c.if-is_held.true)
 
 pub raise-requires : goal.raise-requires
-raise-requires g c = record { can = c.requires; free = c.is_held.ensures.free c.if-is_held.false; tolls = sym c.has_tolls.ensures ∙ c.if-has_tolls.false }
+raise-requires g c = record { can = c.requires; free = c.is_held.ensures.free c.if-is_held.false; rewards = sym c.has_rewards.ensures ∙ c.if-has_rewards.false }
 
-pub raise_tolled-requires : goal.raise_tolled-requires
-raise_tolled-requires g c = record { can = c.requires; free = c.is_held.ensures.free c.if-is_held.false; tolls = sym c.has_tolls.ensures ∙ c.if-has_tolls.true }
+pub raise_rewarded-requires : goal.raise_rewarded-requires
+raise_rewarded-requires g c = record { can = c.requires; free = c.is_held.ensures.free c.if-is_held.false; rewards = sym c.has_rewards.ensures ∙ c.if-has_rewards.true }
 
 pub returns-in-Some : goal.returns-in-Some
 returns-in-Some g c =
@@ -25,5 +25,5 @@ returns-in-Some g c =
     let done = rw (to_z-of_z fits) at c.write_number.ensures in
     subst (λ lane. IsRaisedState t g.run c.args.lane.now lane c.args.s c.write_number.result) (sym done.written)
     (raised_to (laws_of c.rows_at_corners.ensures.parameters c.rows_at_corners.ensures.numbers c.rows_at_corners.ensures.range c.rows_at_corners.ensures.rise c.corners_bound_weights.ensures.sum) t g.run c.args.lane.now c.args.s c.requires (omega (arith, one)) (c.is_held.ensures.free c.if-is_held.false) c.in-Some.number
-    (solved_plain t.rule t.case g.run.spans c.args.lane.now c.args.s (length (choices t.case.model c.args.s)) c.in-Some.number (sym c.has_tolls.ensures ∙ c.if-has_tolls.false)
+    (solved_plain t.rule t.case g.run.spans c.args.lane.now c.args.s (length (choices t.case.model c.args.s)) c.in-Some.number (sym c.has_rewards.ensures ∙ c.if-has_rewards.false)
     (solved_only (laws_of c.rows_at_corners.ensures.parameters c.rows_at_corners.ensures.numbers c.rows_at_corners.ensures.range c.rows_at_corners.ensures.rise c.corners_bound_weights.ensures.sum) t.rule t.case g.run.spans c.requires.read.case c.requires.read.table.inside c.args.lane.now c.requires.below.numbers c.args.s c.requires.state one c.in-Some.number c.in-Some.ensures.solved)) c.write_number.result done.other done.same)

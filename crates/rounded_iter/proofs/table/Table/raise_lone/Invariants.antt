@@ -6,5 +6,5 @@ ghost-enough_for_only g a = g.run.spans
 abbrev pub ghost-raise : goal.ghost-raise
 ghost-raise g a = g.run
 
-abbrev pub ghost-raise_tolled : goal.ghost-raise_tolled
-ghost-raise_tolled g a = g.run
+abbrev pub ghost-raise_rewarded : goal.ghost-raise_rewarded
+ghost-raise_rewarded g a = g.run

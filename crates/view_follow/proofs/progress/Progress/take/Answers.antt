@@ -4,7 +4,7 @@ use Rattle.view_follow.proofs.progress.Progress.take.Goals as goal
 
 pub returns-in-Some : goal.returns-in-Some
 returns-in-Some g c =
-    passes_node g.E.Sink.taken g.E.Sink.faults _ _ c.args.self.now c.meet.new.self c.tell.new.self c.args.byte c.in-Some.node (sym c.behind-line.ensures.node ∙ c.in-Some.is) c.meet.ensures.state c.meet.ensures.lines c.tell.ensures.state (c.tell.ensures.line ∙ c.meet.ensures.line ∙ c.behind-line.ensures.line) c.tell.ensures.lines c.tell.ensures.told
+    passes_node g.E.Sink.taken g.E.Sink.faults _ _ c.args.self.now c.meet.new.self c.tell.new.self c.args.byte c.in-Some.node (sym c.behind-line.ensures.node ∙ c.in-Some.is) c.meet.ensures.state c.meet.ensures.lines c.tell.ensures.state (c.tell.ensures.line ∙ c.meet.ensures.line ∙ c.behind-line.ensures.line) c.tell.ensures.lines c.tell.ensures.reported
 
 pub returns-in_default : goal.returns-in_default
 returns-in_default g c =

@@ -1,4 +1,0 @@
-use Rattle.rounded_iter.proofs.table.Table.solve_tolled_short.Given as goal
-
-abbrev pub ghost-table_others : goal.ghost-table_others
-ghost-table_others g a = g.spans
