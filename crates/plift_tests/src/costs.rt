@@ -25,11 +25,11 @@ cost --goal heads --reward steps --budget 2 --cap 4 --region p<=1 | PAID_LOOP | 
 cost --goal heads --reward steps --budget 2 --cap 4 | PAID_LOOP | Usage | - | usage: --region Missing;
 cost --goal heads --reward steps --budget 2 --cap 4 --region 1/2<=p<=3/2 | PAID_LOOP | RowsRefused | - | \
     rows: state 0 choice 0: target 2 at corner 1 has weight -1;
-cost --goal heads --reward end --budget 1/3 --cap 1 --region 1/5<=p<=2/5 --precision 4 | TOLLS | Done | \
+cost --goal heads --reward end --budget 1/3 --cap 1 --region 1/5<=p<=2/5 --precision 4 | REWARDS | Done | \
     ;cost 0/1 5/2 1/3;cap 1;budget 1/3;precision 4;depth 0;grid 5;box 1 2;accept 5 0 6; | -
-cost --goal heads --reward end --budget 2/8 --cap 1 --region 1/5<=p<=3/5 --depth 1 --precision 4 | TOLLS | Done | \
+cost --goal heads --reward end --budget 2/8 --cap 1 --region 1/5<=p<=3/5 --depth 1 --precision 4 | REWARDS | Done | \
     ;cost 0/1 5/2 1/3;cap 1;budget 1/4;precision 4;depth 1;grid 10;box 2 6;split 0;unknown;accept 4 0 6; | -
-cost --goal heads --reward gain --budget 0 --cap 4294967295 --region 1/5<=p<=2/5 --precision 4 | TOLLS | Done | \
+cost --goal heads --reward gain --budget 0 --cap 4294967295 --region 1/5<=p<=2/5 --precision 4 | REWARDS | Done | \
     ;cost 0/1 1/1 0/1;cap 4294967295;budget 0/1;precision 4;depth 0;grid 5;box 1 2;accept 0 0 0; | -
 ";
 
@@ -44,7 +44,7 @@ const TEXT: &str =
 
 const JOB: Job<'static> = Job {
     words: REGION,
-    model: "TOLLS",
+    model: "REWARDS",
     text: TEXT,
 };
 

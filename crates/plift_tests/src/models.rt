@@ -34,7 +34,7 @@ PAID_LOOP = @type: DTMC;@parameters;p;@reward_models;steps;@model;state 0 [1] in
 TWICE_PAID_LOOP = @type: DTMC;@parameters;p;@reward_models;steps;@model;state 0 [1,2] init;0 : 1/2;1 : 1/2*p;\
     2 : 1/2-1/2*p;state 1 heads;1 : 1;state 2;2 : 1;
 PAID_ACTION = @type: MDP;@reward_models;steps;@model;state 0 [1] init;action go [1];1 : 1;state 1 heads;1 : 1;
-TOLLS = @type: DTMC;@parameters;p;@reward_models;gain end;@model;state 0 [0,0] init;1 : p;2 : 1-p;state 1 [1,5/2] heads;\
+REWARDS = @type: DTMC;@parameters;p;@reward_models;gain end;@model;state 0 [0,0] init;1 : p;2 : 1-p;state 1 [1,5/2] heads;\
     1 : 1;state 2 [0, 1/3];1 : 1;
 LADDER = @type: DTMC;@parameters;p q;@model;state 0 init;2 : p;1 : 1-p;state 1;0 : q;3 : 1-q;state 2 done;2 : 1;state 3;3 : 1;
 DIE = // Exported model;// Original model type: DTMC;@type: DTMC;@parameters;p;@reward_models;;@nr_states;13;\
