@@ -17,7 +17,7 @@ use Rattle.plift_words.specs.Given.{asked, Asks}
 use Rattle.std.specs.declared.alloc.Global.{Global}
 use Rattle.std.specs.Prelude.{String}
 use Rattle.plift_words.specs.Job.JobData.{verify, check, migrate, refine, generate, selftest}
-use Rattle.model_gen.specs.Ladder.{ladder_text, ladder_case, ladder_precision}
+use Rattle.model_gen.specs.Ladder.{ladder_case, ladder_precision}
 use Rattle.plift_words.specs.declared.job.Field.{Field}
 use Rattle.plift_words.specs.declared.job.Field.TheVariants as field
 use Rattle.plift_words.specs.declared.error.WordsError.{WordsError}
@@ -28,7 +28,7 @@ use Rattle.plift_words.specs.Query.{query_bound, query_from, is_reported}
 use Rattle.plift_top.specs.RightReport.{version_of}
 use Rattle.plift_words.specs.declared.query.Query.{Query}
 use Rattle.plift_words.specs.declared.query.Query.TheVariants as query
-use Rattle.plift_top.specs.Verify.{WasRead, IsAnswered, IsAnswerable, Reports, ReportsFront, IsRefused, KeepsWithin, lacks_chain}
+use Rattle.plift_top.specs.Verify.{WasRead, IsAnswered, IsAnswerable, Reports, IsRefused, KeepsWithin, lacks_chain}
 use Rattle.cert_text.specs.Forms.{IsReportedBound}
 use Rattle.cert_check.specs.Sound.{IsSoundFile, leaf_counts}
 use Rattle.cert_check.specs.Answer.{Answers}
@@ -38,11 +38,11 @@ use Rattle.line_text.specs.Found.{WasFound}
 use Rattle.cert_check.specs.declared.summary.Summary.{Summary}
 use Rattle.cert_check.specs.declared.error.CheckError.{CheckError}
 use Rattle.plift_top.specs.Laws.{RightReportsAreSound, LumpedReportsAreSound}
-use Rattle.plift_top.specs.Check.{IsFoundSound, IsFoundInPart, IsUnsound}
+use Rattle.plift_top.specs.Check.{IsFoundSound, IsUnsound}
 use Rattle.plift_top.specs.Migrate.{IsMigrated, IsRefusedFirst, IsSoundFirst, IsUnsoundFirst}
 use Rattle.cert_text.specs.Head.{HeadData}
 use Rattle.cert_text.specs.Laws.{TextsTellOneReport}
-use Rattle.plift_top.specs.Refine.{IsSoundText, LacksDepth, IsRefusedDeeper, deeper_head, IsFitting, IsRefinedTo, IsRefinedInPart, RefinesRight}
+use Rattle.plift_top.specs.Refine.{IsSoundText, LacksDepth, IsRefusedDeeper, deeper_head, IsFitting, IsRefinedTo, RefinesRight}
 use Rattle.plift_top.proofs.Refused.{unsound_text, unsound_status, refines_right, fitting_refused, lacking_done, lacking_status, wide_done, wide_status}
 use Rattle.plift_top.specs.Selftest.{one_half, IsLadderTree, ladder_report, tested_line, IsTestedTree, HasLongReport, TellsTested, Selftests}
 use Rattle.plift_top.specs.Answers.{Acts, Generates, wanted, AsksToVerify, AsksToCheck, AsksToMigrate, AsksToRefine, AsksToGenerate, AsksToSelftest, IsTooLong, limit_of, WroteNote, IsNoted, HasNote, status_of, answered, note_of}
@@ -83,33 +83,23 @@ not_long_report bytes (Some ys) h (taken, is, more) = omega (arith, ap length is
 
 -- what is answered is a case
 answered_case : (old new : Option (List ℕ)) (asked : Query) (a : AskedModel) (k : CaseData) → IsAnswered old new asked a k → IsCase k
-answered_case old new (query.Whole bound from) a k h = h.case
-answered_case old new (query.Within bound n) a k h = h.case
-answered_case old new (query.Lumped bound) a k h = h.is.case
-answered_case old new (query.Property bound op) a k h = h.case
-answered_case old new (query.Cost limits) a k h = h.case
+answered_case old new (query.Lumped bound) a k h = h.1.case
+answered_case old new _ a k h = h.case
 
 -- and can be
 answerable : (old new : Option (List ℕ)) (asked : Query) (a : AskedModel) (k : CaseData) → IsAnswered old new asked a k → IsAnswerable asked k.model
-answerable old new (query.Whole bound from) a k h = (refl, λ e. absurd (cc))
-answerable old new (query.Within bound n) a k h = (refl, λ e. absurd (cc))
-answerable old new (query.Lumped bound) a k h = (ap (lacks_chain (query.Lumped bound)) h.is.chain, λ e wide. not_wide h.is.lumped h.reported.case.asked.model wide)
-answerable old new (query.Property bound op) a k h = (refl, λ e. absurd (cc))
-answerable old new (query.Cost limits) a k h = (refl, λ e. absurd (cc))
+answerable old new (query.Lumped bound) a k h = (ap (lacks_chain (query.Lumped bound)) h.1.chain, λ e wide. not_wide h.1.lumped h.2.case.asked.model wide)
+answerable old new _ a k h = (refl, λ e. absurd (cc))
 
 -- what answers a case that a text stands for, by a report, is a sound file
 answered_soundly : RightReportsAreSound → LumpedReportsAreSound → (old new : Option (List ℕ)) (asked : Query) (text label : List ℕ) (m : ModelData) (root : Region) (w : ℕ) → drn text label ≡ Ok m → ForSome (query_bound asked) IsReportedBound → is_reported asked ≡ true
     → IsAnswered old new asked (uncut m) (case_of m root w) → (report : List ℕ) × (leaves : Summary) × IsSoundFile report leaves × (leaves.version ≡ version_of (query_from asked)) × Appends old new report
 answered_soundly law lumped old new (query.Whole bound from) text label m root w read reported shown h =
     let k = case_of m root w in
-    (report_text k from bound h.tree, leaf_counts (version_of from) h.tree, law text label m root w from bound h.tree read h.case h.range (reported bound refl) h.right, refl, h.report)
-answered_soundly law lumped old new (query.Within bound n) text label m root w read reported shown h = absurd (cc)
-answered_soundly law lumped old new (query.Property bound op) text label m root w read reported shown h = absurd (cc)
-answered_soundly law lumped old new (query.Cost limits) text label m root w read reported shown h = absurd (cc)
-answered_soundly law lumped old new (query.Lumped bound) text label m root w read reported shown h =
-    let k = lumped_case (case_of m root w) h.l in
-    let r = h.reported in
-    (report_text k None bound r.tree, leaf_counts 1 r.tree, lumped text label (case_of m root w) h.l bound r.tree read h.is.lumped r.case (reported bound refl) r.right, refl, r.report)
+    (report_text k from bound h.tree, leaf_counts (version_of from) h.tree, law text label m root w from bound h.tree read h.case h.fits (reported bound refl) h.right, refl, h.text)
+answered_soundly law lumped old new (query.Lumped bound) text label m root w read reported shown (l, is, r) =
+    (report_text (lumped_case (case_of m root w) l) None bound r.tree, leaf_counts 1 r.tree, lumped text label (case_of m root w) l bound r.tree read is.lumped r.case (reported bound refl) r.right, refl, r.text)
+answered_soundly law lumped old new _ text label m root w read reported shown h = absurd (cc)
 
 -- what is a report of a job to a text, is a sound file
 reported_soundly : RightReportsAreSound → LumpedReportsAreSound → (old new : Option (List ℕ)) (j : VerifyData) (text : List ℕ) → ForSome (query_bound j.query) IsReportedBound → (j.safe ≡ None) × (j.reward ≡ None) → is_reported j.query ≡ true → Reports old new j text
@@ -126,106 +116,54 @@ read_soundly : RightReportsAreSound → LumpedReportsAreSound → (old new : Opt
 read_soundly law lumped old new j before after reported none shown w = reported_soundly law lumped old new j w.text reported none shown w.has
 
 module _ {S K : Type 0} (left : S → Option (List ℕ)) (faults : S → ℕ) (taken : K → Option (List ℕ)) (counts : K → ℕ) (source source' : S) (out out' : K) where
-  pub done : (asked : Result JobData Field) (answer : Result (Unit {0}) Refusal) → Acts left faults taken counts asked source source' out out' answer → answered answer ≡ status.Done
-      → (j : VerifyData) → AsksToVerify asked j → WasRead (Reports (taken out) (taken out') j) (left source) (left source')
-  done (Ok (verify k)) (Ok x) a e j is = let same : k ≡ j = cc in subst (λ (i : VerifyData). WasRead (Reports (taken out) (taken out') i) (left source) (left source')) same a
-  done (Ok (generate n)) (Ok x) a e j is = absurd (cc)
-  done (Ok check) (Ok x) a e j is = absurd (cc)
-  done (Ok migrate) (Ok x) a e j is = absurd (cc)
-  done (Ok (refine depth)) (Ok x) a e j is = absurd (cc)
-  done (Ok (selftest n)) (Ok x) a e j is = absurd (cc)
-  done (Err f) (Ok x) a e j is = absurd a.0
-  done asked (Err r) a e j is = absurd (never_done r e)
+  -- an answer to words that ask for a job is one to that job
+  pub acted : (asked : Result JobData Field) (job : JobData) (answer : Result (Unit {0}) Refusal) → Acts left faults taken counts asked source source' out out' answer → asked ≡ Ok job → Acts left faults taken counts (Ok job) source source' out out' answer
+  acted asked job answer a is = subst (λ (q : Result JobData Field). Acts left faults taken counts q source source' out out' answer) is a
 
-  pub generated : (asked : Result JobData Field) (answer : Result (Unit {0}) Refusal) → Acts left faults taken counts asked source source' out out' answer → answered answer ≡ status.Done
-      → (n : ℕ) → AsksToGenerate asked n → Appends (taken out) (taken out') (ladder_text n)
-  generated (Ok (generate m)) (Ok x) a e n is = let same : m ≡ n = cc in subst (λ (i : ℕ). Appends (taken out) (taken out') (ladder_text i)) same a.0
-  generated (Ok (verify k)) (Ok x) a e n is = absurd (cc)
-  generated (Ok check) (Ok x) a e n is = absurd (cc)
-  generated (Ok migrate) (Ok x) a e n is = absurd (cc)
-  generated (Ok (refine depth)) (Ok x) a e n is = absurd (cc)
-  generated (Ok (selftest m)) (Ok x) a e n is = absurd (cc)
-  generated (Err f) (Ok x) a e n is = absurd a.0
-  generated asked (Err r) a e n is = absurd (never_done r e)
+  -- where the job was done
+  pub done : (asked : Result JobData Field) (job : JobData) (answer : Result (Unit {0}) Refusal) → Acts left faults taken counts asked source source' out out' answer → answered answer ≡ status.Done → asked ≡ Ok job
+      → Acts left faults taken counts (Ok job) source source' out out' (Ok (tt {0}))
+  done asked job (Ok x) a e is = acted asked job (Ok x) a is
+  done asked job (Err r) a e is = absurd (never_done r e)
+
+  -- and where writing failed
+  pub cut_off : (asked : Result JobData Field) (job : JobData) (answer : Result (Unit {0}) Refusal) → Acts left faults taken counts asked source source' out out' answer → answered answer ≡ status.WriteFault → asked ≡ Ok job
+      → Acts {T = Unit {0}} left faults taken counts (Ok job) source source' out out' (Err refusal.WriteFault)
+  cut_off asked job (Err refusal.WriteFault) a e is = acted asked job (Err refusal.WriteFault) a is
+  cut_off asked job _ a e is = absurd (cc)
 
   pub generates : (asked : Result JobData Field) (answer : Result (Unit {0}) Refusal) → Acts left faults taken counts asked source source' out out' answer → (n : ℕ) → AsksToGenerate asked n
       → (answered answer ≡ status.Done) ⊎ (answered answer ≡ status.WriteFault)
-  generates (Ok (generate m)) (Ok x) a n is = inl refl
-  generates (Ok (generate m)) (Err refusal.WriteFault) a n is = inr refl
-  generates (Ok (generate m)) (Err _) a n is = absurd a.0
-  generates (Ok (verify k)) answer a n is = absurd (cc)
-  generates (Ok check) answer a n is = absurd (cc)
-  generates (Ok migrate) answer a n is = absurd (cc)
-  generates (Ok (refine depth)) answer a n is = absurd (cc)
-  generates (Ok (selftest m)) answer a n is = absurd (cc)
-  generates (Err f) answer a n is = absurd (cc)
-
-  pub reads_nothing : (asked : Result JobData Field) (answer : Result (Unit {0}) Refusal) → Acts left faults taken counts asked source source' out out' answer → (n : ℕ) → AsksToGenerate asked n → source' ≡ source
-  reads_nothing (Ok (generate m)) answer a n is = a.1
-  reads_nothing (Ok (verify k)) answer a n is = absurd (cc)
-  reads_nothing (Ok check) answer a n is = absurd (cc)
-  reads_nothing (Ok migrate) answer a n is = absurd (cc)
-  reads_nothing (Ok (refine depth)) answer a n is = absurd (cc)
-  reads_nothing (Ok (selftest m)) answer a n is = absurd (cc)
-  reads_nothing (Err f) answer a n is = absurd (cc)
+  generates asked (Ok x) a n is = inl refl
+  generates asked (Err refusal.WriteFault) a n is = inr refl
+  generates asked (Err r) a n is = absurd (acted asked (generate n) (Err r) a is).0
 
   -- what was written for a job is a sound file
   pub sound : RightReportsAreSound → LumpedReportsAreSound → (asked : Result JobData Field) (answer : Result (Unit {0}) Refusal) → Acts left faults taken counts asked source source' out out' answer
       → (IsOk answer → (j : VerifyData) → AsksToVerify asked j → ForSome (query_bound j.query) IsReportedBound) → (IsOk answer → (j : VerifyData) → AsksToVerify asked j → is_reported j.query ≡ true → (j.safe ≡ None) × (j.reward ≡ None))
       → answered answer ≡ status.Done → (j : VerifyData) → AsksToVerify asked j → is_reported j.query ≡ true
       → (report : List ℕ) × (leaves : Summary) × IsSoundFile report leaves × (leaves.version ≡ version_of (query_from j.query)) × Appends (taken out) (taken out') report
-  sound law lumped (Ok (verify i)) (Ok x) a reported whole e j is shown =
-      let same : i ≡ j = cc in
-      read_soundly law lumped (taken out) (taken out') j (left source) (left source') (reported refl j is) (whole refl j is shown) shown
-      (subst (λ (k : VerifyData). WasRead (Reports (taken out) (taken out') k) (left source) (left source')) same a)
-  sound law lumped (Ok (generate n)) (Ok x) a reported whole e j is shown = absurd (cc)
-  sound law lumped (Ok check) (Ok x) a reported whole e j is shown = absurd (cc)
-  sound law lumped (Ok migrate) (Ok x) a reported whole e j is shown = absurd (cc)
-  sound law lumped (Ok (refine depth)) (Ok x) a reported whole e j is shown = absurd (cc)
-  sound law lumped (Ok (selftest n)) (Ok x) a reported whole e j is shown = absurd (cc)
-  sound law lumped (Err f) (Ok x) a reported whole e j is shown = absurd a.0
+  sound law lumped asked (Ok x) a reported whole e j is shown =
+      read_soundly law lumped (taken out) (taken out') j (left source) (left source') (reported refl j is) (whole refl j is shown) shown (acted asked (verify j) (Ok x) a is)
   sound law lumped asked (Err r) a reported whole e j is shown = absurd (never_done r e)
 
   noted : (asked : Result JobData Field) (r : Refusal) → Acts {T = Unit {0}} left faults taken counts asked source source' out out' (Err r) → HasNote (status_of r) asked (left source) (left source') (note_of r)
-  noted (Ok (verify j)) (refusal.Usage f) a = absurd a.0
-  noted (Ok (verify j)) refusal.ReadFault a = (refusal.ReadFault, refl, refl, tt)
-  noted (Ok (verify j)) refusal.WriteFault a = (refusal.WriteFault, refl, refl, tt)
-  noted (Ok (verify j)) refusal.TooLong a = (refusal.TooLong, refl, refl, tt)
-  noted (Ok (verify j)) refusal.Memory a = (refusal.Memory, refl, refl, tt)
+  noted asked refusal.ReadFault a = (refusal.ReadFault, refl, refl, tt)
+  noted asked refusal.WriteFault a = (refusal.WriteFault, refl, refl, tt)
+  noted asked refusal.TooLong a = (refusal.TooLong, refl, refl, tt)
+  noted asked refusal.Memory a = (refusal.Memory, refl, refl, tt)
   noted (Ok (verify j)) (refusal.Region error) a = (refusal.Region error, refl, refl, (j, refl, a.0))
   noted (Ok (verify j)) (refusal.Model error) a = (refusal.Model error, refl, refl, (j, refl, a.0))
-  noted (Ok (verify j)) (refusal.Unsound error) a = absurd a.0
   noted (Ok (verify j)) (refusal.Rows error) a = (refusal.Rows error, refl, refl, inl (j, refl, a.0))
   noted (Ok (verify j)) refusal.NotChain a = (refusal.NotChain, refl, refl, (j, refl, a.0))
   noted (Ok (verify j)) refusal.TooWide a = (refusal.TooWide, refl, refl, (j, refl, a.0))
-  noted (Ok (generate n)) refusal.WriteFault a = (refusal.WriteFault, refl, refl, tt)
-  noted (Ok (generate n)) _ a = absurd a.0
-  noted (Ok check) refusal.ReadFault a = (refusal.ReadFault, refl, refl, tt)
-  noted (Ok check) refusal.WriteFault a = (refusal.WriteFault, refl, refl, tt)
-  noted (Ok check) refusal.TooLong a = (refusal.TooLong, refl, refl, tt)
-  noted (Ok check) refusal.Memory a = (refusal.Memory, refl, refl, tt)
   noted (Ok check) (refusal.Unsound error) a = (refusal.Unsound error, refl, refl, inl (refl, a.0))
-  noted (Ok check) _ a = absurd a.0
-  noted (Ok migrate) refusal.ReadFault a = (refusal.ReadFault, refl, refl, tt)
-  noted (Ok (refine depth)) refusal.ReadFault a = (refusal.ReadFault, refl, refl, tt)
-  noted (Ok migrate) refusal.WriteFault a = (refusal.WriteFault, refl, refl, tt)
-  noted (Ok (refine depth)) refusal.WriteFault a = (refusal.WriteFault, refl, refl, tt)
-  noted (Ok migrate) refusal.TooLong a = (refusal.TooLong, refl, refl, tt)
-  noted (Ok (refine depth)) refusal.TooLong a = (refusal.TooLong, refl, refl, tt)
-  noted (Ok migrate) refusal.Memory a = (refusal.Memory, refl, refl, tt)
-  noted (Ok (refine depth)) refusal.Memory a = (refusal.Memory, refl, refl, tt)
   noted (Ok migrate) (refusal.Unsound error) a = (refusal.Unsound error, refl, refl, inr (inl (refl, a.0)))
   noted (Ok (refine depth)) (refusal.Unsound error) a = (refusal.Unsound error, refl, refl, inr (inr (depth, refl, a.0)))
   noted (Ok (refine depth)) (refusal.Usage f) a = (refusal.Usage f, refl, refl, inr (depth, refl, a.0))
   noted (Ok (refine depth)) (refusal.Rows error) a = (refusal.Rows error, refl, refl, inr (depth, refl, a.0))
-  noted (Ok migrate) _ a = absurd a.0
-  noted (Ok (refine depth)) _ a = absurd a.0
-  noted (Ok (selftest n)) refusal.WriteFault a = (refusal.WriteFault, refl, refl, tt)
-  noted (Ok (selftest n)) refusal.TooLong a = (refusal.TooLong, refl, refl, tt)
-  noted (Ok (selftest n)) refusal.Memory a = (refusal.Memory, refl, refl, tt)
-  noted (Ok (selftest n)) _ a = absurd a.0
+  noted (Ok _) _ a = absurd a.0
   noted (Err f) (refusal.Usage g) a = (refusal.Usage g, refl, refl, inl (ap (λ f. Err f) (sym a.0)))
-  noted (Err f) refusal.Memory a = (refusal.Memory, refl, refl, tt)
   noted (Err f) _ a = absurd a.0
 
   pub reported : {E : Type 0} (kept : E → Option (List ℕ)) (lost : E → ℕ) (notes notes' : E) (asked : Result JobData Field) (answer : Result (Unit {0}) Refusal) → Acts left faults taken counts asked source source' out out' answer
@@ -254,200 +192,60 @@ module _ {S K : Type 0} (left : S → Option (List ℕ)) (faults : S → ℕ) (t
       → Rose (faults source) (faults source')
   read_fault asked (Ok x) a e = absurd (cc)
   read_fault (Ok (verify j)) (Err refusal.ReadFault) a e = a.0
-  read_fault (Ok (verify j)) (Err _) a e = absurd (cc)
-  read_fault (Ok (generate n)) (Err refusal.ReadFault) a e = absurd a.0
-  read_fault (Ok (generate n)) (Err _) a e = absurd (cc)
   read_fault (Ok check) (Err refusal.ReadFault) a e = a.0
-  read_fault (Ok check) (Err _) a e = absurd (cc)
   read_fault (Ok migrate) (Err refusal.ReadFault) a e = a.0
   read_fault (Ok (refine depth)) (Err refusal.ReadFault) a e = a.0
-  read_fault (Ok migrate) (Err _) a e = absurd (cc)
-  read_fault (Ok (refine depth)) (Err _) a e = absurd (cc)
-  read_fault (Ok (selftest n)) (Err refusal.ReadFault) a e = absurd a.0
-  read_fault (Ok (selftest n)) (Err _) a e = absurd (cc)
-  read_fault (Err f) (Err refusal.ReadFault) a e = absurd a.0
-  read_fault (Err f) (Err _) a e = absurd (cc)
+  read_fault asked (Err refusal.ReadFault) a e = absurd a.0
+  read_fault asked (Err _) a e = absurd (cc)
 
   pub write_fault : (asked : Result JobData Field) (answer : Result (Unit {0}) Refusal) → Acts left faults taken counts asked source source' out out' answer → answered answer ≡ status.WriteFault
       → Rose (counts out) (counts out')
   write_fault asked (Ok x) a e = absurd (cc)
-  write_fault (Ok (verify j)) (Err refusal.WriteFault) a e = a.1
-  write_fault (Ok (verify j)) (Err _) a e = absurd (cc)
   write_fault (Ok (generate n)) (Err refusal.WriteFault) a e = a.0.1
-  write_fault (Ok (generate n)) (Err _) a e = absurd (cc)
-  write_fault (Ok check) (Err refusal.WriteFault) a e = a.1
-  write_fault (Ok check) (Err _) a e = absurd (cc)
-  write_fault (Ok migrate) (Err refusal.WriteFault) a e = a.1
-  write_fault (Ok (refine depth)) (Err refusal.WriteFault) a e = a.1
-  write_fault (Ok migrate) (Err _) a e = absurd (cc)
-  write_fault (Ok (refine depth)) (Err _) a e = absurd (cc)
   write_fault (Ok (selftest n)) (Err refusal.WriteFault) a e = a.0.1
-  write_fault (Ok (selftest n)) (Err _) a e = absurd (cc)
+  write_fault (Ok _) (Err refusal.WriteFault) a e = a.1
   write_fault (Err f) (Err refusal.WriteFault) a e = absurd a.0
-  write_fault (Err f) (Err _) a e = absurd (cc)
-
-  pub part : (asked : Result JobData Field) (answer : Result (Unit {0}) Refusal) → Acts left faults taken counts asked source source' out out' answer → answered answer ≡ status.WriteFault
-      → (j : VerifyData) → AsksToVerify asked j → WasRead (ReportsFront (taken out) (taken out') j) (left source) (left source')
-  part asked (Ok x) a e j is = absurd (cc)
-  part (Ok (verify k)) (Err refusal.WriteFault) a e j is = let same : k ≡ j = cc in subst (λ (i : VerifyData). WasRead (ReportsFront (taken out) (taken out') i) (left source) (left source')) same a.0
-  part (Ok (verify k)) (Err _) a e j is = absurd (cc)
-  part (Ok (generate n)) (Err _) a e j is = absurd (cc)
-  part (Ok check) (Err _) a e j is = absurd (cc)
-  part (Ok migrate) (Err _) a e j is = absurd (cc)
-  part (Ok (refine depth)) (Err _) a e j is = absurd (cc)
-  part (Ok (selftest n)) (Err _) a e j is = absurd (cc)
-  part (Err f) (Err _) a e j is = absurd (cc)
-
-  pub ladder_part : (asked : Result JobData Field) (answer : Result (Unit {0}) Refusal) → Acts left faults taken counts asked source source' out out' answer → answered answer ≡ status.WriteFault
-      → (n : ℕ) → AsksToGenerate asked n → AppendsFront (taken out) (taken out') (ladder_text n)
-  ladder_part asked (Ok x) a e n is = absurd (cc)
-  ladder_part (Ok (generate m)) (Err refusal.WriteFault) a e n is = let same : m ≡ n = cc in subst (λ (i : ℕ). AppendsFront (taken out) (taken out') (ladder_text i)) same a.0.0
-  ladder_part (Ok (generate m)) (Err _) a e n is = absurd (cc)
-  ladder_part (Ok (verify k)) (Err _) a e n is = absurd (cc)
-  ladder_part (Ok check) (Err _) a e n is = absurd (cc)
-  ladder_part (Ok migrate) (Err _) a e n is = absurd (cc)
-  ladder_part (Ok (refine depth)) (Err _) a e n is = absurd (cc)
-  ladder_part (Ok (selftest m)) (Err _) a e n is = absurd (cc)
-  ladder_part (Err f) (Err _) a e n is = absurd (cc)
+  write_fault asked (Err _) a e = absurd (cc)
 
   pub kept : (asked : Result JobData Field) (answer : Result (Unit {0}) Refusal) → Acts left faults taken counts asked source source' out out' answer → answered answer ≢ status.Done → answered answer ≢ status.WriteFault
       → out' ≡ out
   kept asked (Ok x) a d e = absurd (d refl)
-  kept (Ok (verify j)) (Err refusal.WriteFault) a d e = absurd (e refl)
-  kept (Ok (verify j)) (Err _) a d e = a.1
-  kept (Ok (generate n)) (Err refusal.WriteFault) a d e = absurd (e refl)
+  kept asked (Err refusal.WriteFault) a d e = absurd (e refl)
   kept (Ok (generate n)) (Err _) a d e = absurd a.0
-  kept (Ok check) (Err refusal.WriteFault) a d e = absurd (e refl)
-  kept (Ok check) (Err _) a d e = a.1
-  kept (Ok migrate) (Err refusal.WriteFault) a d e = absurd (e refl)
-  kept (Ok (refine depth)) (Err refusal.WriteFault) a d e = absurd (e refl)
-  kept (Ok migrate) (Err _) a d e = a.1
-  kept (Ok (refine depth)) (Err _) a d e = a.1
-  kept (Ok (selftest n)) (Err refusal.WriteFault) a d e = absurd (e refl)
   kept (Ok (selftest n)) (Err refusal.TooLong) a d e = a.0.1
   kept (Ok (selftest n)) (Err refusal.Memory) a d e = a.0
   kept (Ok (selftest n)) (Err _) a d e = absurd a.0
+  kept (Ok _) (Err _) a d e = a.1
   kept (Err f) (Err r) a d e = a.2
-
-  pub checked : (asked : Result JobData Field) (answer : Result (Unit {0}) Refusal) → Acts left faults taken counts asked source source' out out' answer → answered answer ≡ status.Done
-      → AsksToCheck asked → WasRead (IsFoundSound (taken out) (taken out')) (left source) (left source')
-  checked (Ok check) (Ok x) a e is = a
-  checked (Ok migrate) (Ok x) a e is = absurd (cc)
-  checked (Ok (refine depth)) (Ok x) a e is = absurd (cc)
-  checked (Ok (verify j)) (Ok x) a e is = absurd (cc)
-  checked (Ok (generate n)) (Ok x) a e is = absurd (cc)
-  checked (Ok (selftest n)) (Ok x) a e is = absurd (cc)
-  checked (Err f) (Ok x) a e is = absurd a.0
-  checked asked (Err r) a e is = absurd (never_done r e)
-
-  pub line_part : (asked : Result JobData Field) (answer : Result (Unit {0}) Refusal) → Acts left faults taken counts asked source source' out out' answer → answered answer ≡ status.WriteFault
-      → AsksToCheck asked → WasRead (IsFoundInPart (taken out) (taken out')) (left source) (left source')
-  line_part asked (Ok x) a e is = absurd (cc)
-  line_part (Ok check) (Err refusal.WriteFault) a e is = a.0
-  line_part (Ok check) (Err _) a e is = absurd (cc)
-  line_part (Ok migrate) (Err _) a e is = absurd (cc)
-  line_part (Ok (refine depth)) (Err _) a e is = absurd (cc)
-  line_part (Ok (verify j)) (Err _) a e is = absurd (cc)
-  line_part (Ok (generate n)) (Err _) a e is = absurd (cc)
-  line_part (Ok (selftest n)) (Err _) a e is = absurd (cc)
-  line_part (Err f) (Err _) a e is = absurd (cc)
-
-  pub migrated : (asked : Result JobData Field) (answer : Result (Unit {0}) Refusal) → Acts left faults taken counts asked source source' out out' answer → answered answer ≡ status.Done
-      → AsksToMigrate asked → WasRead (IsMigrated (Appends (taken out) (taken out'))) (left source) (left source')
-  migrated (Ok migrate) (Ok x) a e is = a
-  migrated (Ok (refine depth)) (Ok x) a e is = absurd (cc)
-  migrated (Ok check) (Ok x) a e is = absurd (cc)
-  migrated (Ok (verify j)) (Ok x) a e is = absurd (cc)
-  migrated (Ok (generate n)) (Ok x) a e is = absurd (cc)
-  migrated (Ok (selftest n)) (Ok x) a e is = absurd (cc)
-  migrated (Err f) (Ok x) a e is = absurd a.0
-  migrated asked (Err r) a e is = absurd (never_done r e)
-
-  pub migrated_part : (asked : Result JobData Field) (answer : Result (Unit {0}) Refusal) → Acts left faults taken counts asked source source' out out' answer → answered answer ≡ status.WriteFault
-      → AsksToMigrate asked → WasRead (IsMigrated (AppendsFront (taken out) (taken out'))) (left source) (left source')
-  migrated_part asked (Ok x) a e is = absurd (cc)
-  migrated_part (Ok migrate) (Err refusal.WriteFault) a e is = a.0
-  migrated_part (Ok migrate) (Err _) a e is = absurd (cc)
-  migrated_part (Ok (refine depth)) (Err _) a e is = absurd (cc)
-  migrated_part (Ok check) (Err _) a e is = absurd (cc)
-  migrated_part (Ok (verify j)) (Err _) a e is = absurd (cc)
-  migrated_part (Ok (generate n)) (Err _) a e is = absurd (cc)
-  migrated_part (Ok (selftest n)) (Err _) a e is = absurd (cc)
-  migrated_part (Err f) (Err _) a e is = absurd (cc)
 
   pub not_sound : SoundFilesPass → AnswersAreOne → (asked : Result JobData Field) (answer : Result (Unit {0}) Refusal) → Acts left faults taken counts asked source source' out out' answer → answered answer ≡ status.NotSound
       → (AsksToCheck asked × WasFound report_limit IsUnsound (left source) (left source')) ⊎ ((AsksToMigrate asked × WasRead IsUnsoundFirst (left source) (left source')) ⊎ ((depth : ℕ) × AsksToRefine asked depth × WasRead IsUnsound (left source) (left source')))
-  not_sound pass one asked (Ok x) a e = absurd (cc)
   not_sound pass one (Ok check) (Err (refusal.Unsound error)) a e = inl (refl, found_as (λ bytes is leaves file. faulty pass one bytes leaves error file is) a.0)
-  not_sound pass one (Ok check) (Err _) a e = absurd (cc)
   not_sound pass one (Ok migrate) (Err (refusal.Unsound error)) a e = inr (inl (refl, read_as (λ bytes is leaves file. never_migrated pass one bytes leaves error file is) a.0))
   not_sound pass one (Ok (refine depth)) (Err (refusal.Unsound error)) a e = inr (inr (depth, refl, read_as (λ bytes is leaves file. faulty pass one bytes leaves error file is) a.0))
-  not_sound pass one (Ok migrate) (Err _) a e = absurd (cc)
-  not_sound pass one (Ok (refine depth)) (Err _) a e = absurd (cc)
-  not_sound pass one (Ok (verify j)) (Err (refusal.Unsound error)) a e = absurd a.0
-  not_sound pass one (Ok (verify j)) (Err _) a e = absurd (cc)
-  not_sound pass one (Ok (generate n)) (Err (refusal.Unsound error)) a e = absurd a.0
-  not_sound pass one (Ok (generate n)) (Err _) a e = absurd (cc)
-  not_sound pass one (Ok (selftest n)) (Err (refusal.Unsound error)) a e = absurd a.0
-  not_sound pass one (Ok (selftest n)) (Err _) a e = absurd (cc)
-  not_sound pass one (Err f) (Err (refusal.Unsound error)) a e = absurd a.0
-  not_sound pass one (Err f) (Err _) a e = absurd (cc)
+  not_sound pass one asked (Err (refusal.Unsound error)) a e = absurd a.0
+  not_sound pass one asked _ a e = absurd (cc)
 
   pub selftested : (asked : Result JobData Field) (answer : Result (Unit {0}) Refusal) → Acts left faults taken counts asked source source' out out' answer → answered answer ≡ status.Done
       → (n : ℕ) → AsksToSelftest asked n → (tree : Tree) × IsCase (ladder_case n) × IsLadderTree n tree × Appends (taken out) (taken out') (tested_line n (leaf_counts 1 tree))
-  selftested (Ok (selftest m)) (Ok x) a e n is =
-      let same : m ≡ n = cc in
-      subst (λ (i : ℕ). (tree : Tree) × IsCase (ladder_case i) × IsLadderTree i tree × Appends (taken out) (taken out') (tested_line i (leaf_counts 1 tree))) same (a.0.0, a.0.1.case, a.0.1.right, a.0.2)
-  selftested (Ok (verify j)) (Ok x) a e n is = absurd (cc)
-  selftested (Ok (generate m)) (Ok x) a e n is = absurd (cc)
-  selftested (Ok check) (Ok x) a e n is = absurd (cc)
-  selftested (Ok migrate) (Ok x) a e n is = absurd (cc)
-  selftested (Ok (refine depth)) (Ok x) a e n is = absurd (cc)
-  selftested (Err f) (Ok x) a e n is = absurd a.0
-  selftested asked (Err r) a e n is = absurd (never_done r e)
+  selftested asked answer a e n is = (let tested = (done asked (selftest n) answer a e is).0 in (tested.0, tested.1.case, tested.1.right, tested.2))
 
   pub tested_part : (asked : Result JobData Field) (answer : Result (Unit {0}) Refusal) → Acts left faults taken counts asked source source' out out' answer → answered answer ≡ status.WriteFault
       → (n : ℕ) → AsksToSelftest asked n → (tree : Tree) × IsCase (ladder_case n) × IsLadderTree n tree × AppendsFront (taken out) (taken out') (tested_line n (leaf_counts 1 tree))
-  tested_part asked (Ok x) a e n is = absurd (cc)
-  tested_part (Ok (selftest m)) (Err refusal.WriteFault) a e n is =
-      let same : m ≡ n = cc in
-      let tested = a.0.0 in
-      subst (λ (i : ℕ). (tree : Tree) × IsCase (ladder_case i) × IsLadderTree i tree × AppendsFront (taken out) (taken out') (tested_line i (leaf_counts 1 tree))) same (tested.0, tested.1.case, tested.1.right, tested.2)
-  tested_part (Ok (selftest m)) (Err _) a e n is = absurd (cc)
-  tested_part (Ok (verify j)) (Err _) a e n is = absurd (cc)
-  tested_part (Ok (generate m)) (Err _) a e n is = absurd (cc)
-  tested_part (Ok check) (Err _) a e n is = absurd (cc)
-  tested_part (Ok migrate) (Err _) a e n is = absurd (cc)
-  tested_part (Ok (refine depth)) (Err _) a e n is = absurd (cc)
-  tested_part (Err f) (Err _) a e n is = absurd (cc)
-
-  pub tests_unread : (asked : Result JobData Field) (answer : Result (Unit {0}) Refusal) → Acts left faults taken counts asked source source' out out' answer → (n : ℕ) → AsksToSelftest asked n → source' ≡ source
-  tests_unread (Ok (selftest m)) answer a n is = a.1
-  tests_unread (Ok (verify k)) answer a n is = absurd (cc)
-  tests_unread (Ok (generate m)) answer a n is = absurd (cc)
-  tests_unread (Ok check) answer a n is = absurd (cc)
-  tests_unread (Ok migrate) answer a n is = absurd (cc)
-  tests_unread (Ok (refine depth)) answer a n is = absurd (cc)
-  tests_unread (Err f) answer a n is = absurd (cc)
+  tested_part asked answer a e n is = (let tested = (cut_off asked (selftest n) answer a e is).0.0 in (tested.0, tested.1.case, tested.1.right, tested.2))
 
   -- an answer to `selftest`, by its kind
   by_test : (Q : ℕ → Status → Type 0) → ((n : ℕ) → TellsTested (Appends (taken out) (taken out')) n → Q n status.Done) → ((n : ℕ) → TellsTested (AppendsFront (taken out) (taken out')) n → Rose (counts out) (counts out') → Q n status.WriteFault)
       → ((n : ℕ) → HasLongReport n → Q n status.TooLong) → ((n : ℕ) → Q n status.Memory)
       → (asked : Result JobData Field) (answer : Result (Unit {0}) Refusal) → Acts left faults taken counts asked source source' out out' answer → (n : ℕ) → AsksToSelftest asked n → Q n (answered answer)
-  by_test Q done part long memory (Ok (selftest m)) answer a n is = let same : m ≡ n = cc in subst (λ (i : ℕ). Q i (answered answer)) same (by answer a.0)
+  by_test Q done part long memory asked answer a n is = by answer (acted asked (selftest n) answer a is).0
     where
-      by : (answer : Result (Unit {0}) Refusal) → Selftests taken counts m out out' answer → Q m (answered answer)
-      by (Ok x) a = done m a
-      by (Err refusal.WriteFault) a = part m a.0 a.1
-      by (Err refusal.TooLong) a = long m a.0
-      by (Err refusal.Memory) a = memory m
+      by : (answer : Result (Unit {0}) Refusal) → Selftests taken counts n out out' answer → Q n (answered answer)
+      by (Ok x) a = done n a
+      by (Err refusal.WriteFault) a = part n a.0 a.1
+      by (Err refusal.TooLong) a = long n a.0
+      by (Err refusal.Memory) a = memory n
       by (Err _) a = absurd a
-  by_test Q done part long memory (Ok (verify j)) answer a n is = absurd (cc)
-  by_test Q done part long memory (Ok (generate m)) answer a n is = absurd (cc)
-  by_test Q done part long memory (Ok check) answer a n is = absurd (cc)
-  by_test Q done part long memory (Ok migrate) answer a n is = absurd (cc)
-  by_test Q done part long memory (Ok (refine depth)) answer a n is = absurd (cc)
-  by_test Q done part long memory (Err f) answer a n is = absurd (cc)
 
   pub tests : (asked : Result JobData Field) (answer : Result (Unit {0}) Refusal) → Acts left faults taken counts asked source source' out out' answer → (n : ℕ) → AsksToSelftest asked n
       → (answered answer ≡ status.Done) ⊎ ((answered answer ≡ status.WriteFault) ⊎ ((answered answer ≡ status.TooLong) ⊎ (answered answer ≡ status.Memory)))
@@ -503,25 +301,16 @@ took_few limit (Err _) old new h e = h
 module _ {S K : Type 0} (left : S → Option (List ℕ)) (faults : S → ℕ) (taken : K → Option (List ℕ)) (counts : K → ℕ) (source source' : S) (out out' : K) where
   pub too_long : (asked : Result JobData Field) (answer : Result (Unit {0}) Refusal) → Acts left faults taken counts asked source source' out out' answer → (((n : ℕ) → AsksToSelftest asked n → ⊥) → KeepsWithin (limit_of asked) answer (left source) (left source'))
       → answered answer ≡ status.TooLong → IsTooLong asked (left source) (left source')
-  too_long (Ok (selftest n)) (Ok x) a limit e = absurd (cc)
   too_long (Ok (selftest n)) (Err refusal.TooLong) a limit e = a.0.0
-  too_long (Ok (selftest n)) (Err _) a limit e = absurd (cc)
-  too_long (Ok (verify j)) answer a limit e = took_more file_limit answer (left source) (left source') (limit (λ n is. absurd (cc))) e
-  too_long (Ok (generate n)) answer a limit e = took_more file_limit answer (left source) (left source') (limit (λ n is. absurd (cc))) e
+  too_long (Ok (selftest n)) _ a limit e = absurd (cc)
   too_long (Ok check) answer a limit e = took_more report_limit answer (left source) (left source') (limit (λ n is. absurd (cc))) e
-  too_long (Ok migrate) answer a limit e = took_more file_limit answer (left source) (left source') (limit (λ n is. absurd (cc))) e
-  too_long (Ok (refine depth)) answer a limit e = took_more file_limit answer (left source) (left source') (limit (λ n is. absurd (cc))) e
-  too_long (Err f) answer a limit e = took_more file_limit answer (left source) (left source') (limit (λ n is. absurd (cc))) e
+  too_long _ answer a limit e = took_more file_limit answer (left source) (left source') (limit (λ n is. absurd (cc))) e
 
   pub within : (asked : Result JobData Field) (answer : Result (Unit {0}) Refusal) → Acts left faults taken counts asked source source' out out' answer → (((n : ℕ) → AsksToSelftest asked n → ⊥) → KeepsWithin (limit_of asked) answer (left source) (left source'))
       → answered answer ≢ status.TooLong → TakenHas (λ bytes. length bytes ≤ limit_of asked) (left source) (left source')
   within (Ok (selftest n)) answer a limit e = subst (λ (s : S). TakenHas (λ bytes. length bytes ≤ file_limit) (left source) (left s)) (sym a.1) (untouched file_limit (left source))
-  within (Ok (verify j)) answer a limit e = took_few file_limit answer (left source) (left source') (limit (λ n is. absurd (cc))) e
-  within (Ok (generate n)) answer a limit e = took_few file_limit answer (left source) (left source') (limit (λ n is. absurd (cc))) e
   within (Ok check) answer a limit e = took_few report_limit answer (left source) (left source') (limit (λ n is. absurd (cc))) e
-  within (Ok migrate) answer a limit e = took_few file_limit answer (left source) (left source') (limit (λ n is. absurd (cc))) e
-  within (Ok (refine depth)) answer a limit e = took_few file_limit answer (left source) (left source') (limit (λ n is. absurd (cc))) e
-  within (Err f) answer a limit e = took_few file_limit answer (left source) (left source') (limit (λ n is. absurd (cc))) e
+  within _ answer a limit e = took_few file_limit answer (left source) (left source') (limit (λ n is. absurd (cc))) e
 
 -- where a text was given and nothing failed
 module _ {S K : Type 0} (left : S → Option (List ℕ)) (faults : S → ℕ) (taken : K → Option (List ℕ)) (counts : K → ℕ) (source source' : S) (out out' : K) (j : VerifyData) (text : List ℕ) (reported : left source ≡ Some text)
@@ -529,7 +318,7 @@ module _ {S K : Type 0} (left : S → Option (List ℕ)) (faults : S → ℕ) (t
   -- an answer is one to the report of the job, or to what refuses it at its text, or for want of memory
   by_answer : (Q : Status → Type 0) → (Reports (taken out) (taken out') j text → Q status.Done) → ((why : Refusal) → IsRefused j why text → Q (status_of why)) → Q status.Memory
       → (asked : Result JobData Field) (answer : Result (Unit {0}) Refusal) → Acts left faults taken counts asked source source' out out' answer → AsksToVerify asked j → Q (answered answer)
-  by_answer Q done refused memory (Ok (verify k)) answer a is = by answer (subst (λ (i : VerifyData). Acts left faults taken counts (Ok (verify i)) source source' out out' answer) (cc) a)
+  by_answer Q done refused memory asked answer a is = by answer (acted left faults taken counts source source' out out' asked (verify j) answer a is)
     where
       by : (answer : Result (Unit {0}) Refusal) → Acts left faults taken counts (Ok (verify j)) source source' out out' answer → Q (answered answer)
       by (Ok x) a = done (given (Reports (taken out) (taken out') j) text (left source') (rw reported at a))
@@ -540,12 +329,6 @@ module _ {S K : Type 0} (left : S → Option (List ℕ)) (faults : S → ℕ) (t
       by (Err (refusal.Usage field)) a = absurd a.0
       by (Err (refusal.Unsound error)) a = absurd a.0
       by (Err r) a = refused r (given (IsRefused j r) text (left source') (rw reported at a.0))
-  by_answer Q done refused memory (Ok (generate n)) answer a is = absurd (cc)
-  by_answer Q done refused memory (Ok check) answer a is = absurd (cc)
-  by_answer Q done refused memory (Ok migrate) answer a is = absurd (cc)
-  by_answer Q done refused memory (Ok (refine depth)) answer a is = absurd (cc)
-  by_answer Q done refused memory (Ok (selftest n)) answer a is = absurd (cc)
-  by_answer Q done refused memory (Err e) answer a is = absurd (cc)
 
   module _ (none : AdmittedHasNoFault) where
     -- a job whose model is admitted over its region is done, but for want of memory
@@ -588,19 +371,16 @@ module _ {S K : Type 0} (left : S → Option (List ℕ)) (faults : S → ℕ) (t
   -- an answer is that the bytes are sound, or their first fault, or for want of memory
   by_check : (Q : Status → Type 0) → (IsFoundSound (taken out) (taken out') bytes → Q status.Done) → ((error : CheckError) → Answers bytes (Err error) → Q status.NotSound) → Q status.Memory
       → (asked : Result JobData Field) (answer : Result (Unit {0}) Refusal) → Acts left faults taken counts asked source source' out out' answer → AsksToCheck asked → Q (answered answer)
-  by_check Q sound faulty memory (Ok check) (Ok x) a is = sound (given (IsFoundSound (taken out) (taken out')) bytes (left source') (rw reported at a))
-  by_check Q sound faulty memory (Ok check) (Err refusal.ReadFault) a is = absurd (sure1 a.0)
-  by_check Q sound faulty memory (Ok check) (Err refusal.WriteFault) a is = absurd (sure2 a.1)
-  by_check Q sound faulty memory (Ok check) (Err refusal.TooLong) a is = absurd (not_long_report bytes (left source') len (rw reported at a.0))
-  by_check Q sound faulty memory (Ok check) (Err refusal.Memory) a is = memory
-  by_check Q sound faulty memory (Ok check) (Err (refusal.Unsound error)) a is = faulty error (found_of (λ bytes. Answers bytes (Err error)) report_limit bytes (left source') (rw reported at a.0))
-  by_check Q sound faulty memory (Ok check) (Err _) a is = absurd a.0
-  by_check Q sound faulty memory (Ok migrate) answer a is = absurd (cc)
-  by_check Q sound faulty memory (Ok (refine depth)) answer a is = absurd (cc)
-  by_check Q sound faulty memory (Ok (verify j)) answer a is = absurd (cc)
-  by_check Q sound faulty memory (Ok (generate n)) answer a is = absurd (cc)
-  by_check Q sound faulty memory (Ok (selftest n)) answer a is = absurd (cc)
-  by_check Q sound faulty memory (Err f) answer a is = absurd (cc)
+  by_check Q sound faulty memory asked answer a is = by answer (acted left faults taken counts source source' out out' asked check answer a is)
+    where
+      by : (answer : Result (Unit {0}) Refusal) → Acts left faults taken counts (Ok check) source source' out out' answer → Q (answered answer)
+      by (Ok x) a = sound (given (IsFoundSound (taken out) (taken out')) bytes (left source') (rw reported at a))
+      by (Err refusal.ReadFault) a = absurd (sure1 a.0)
+      by (Err refusal.WriteFault) a = absurd (sure2 a.1)
+      by (Err refusal.TooLong) a = absurd (not_long_report bytes (left source') len (rw reported at a.0))
+      by (Err refusal.Memory) a = memory
+      by (Err (refusal.Unsound error)) a = faulty error (found_of (λ bytes. Answers bytes (Err error)) report_limit bytes (left source') (rw reported at a.0))
+      by (Err _) a = absurd a.0
 
   -- a sound file is found so, but for want of memory
   pub check_complete : SoundFilesPass → AnswersAreOne → (asked : Result JobData Field) (answer : Result (Unit {0}) Refusal) → Acts left faults taken counts asked source source' out out' answer → AsksToCheck asked
@@ -620,19 +400,16 @@ module _ {S K : Type 0} (left : S → Option (List ℕ)) (faults : S → ℕ) (t
   -- an answer is that the bytes are sound, or why they aren't, or for want of memory
   by_migrate : (Q : Status → Type 0) → (IsMigrated (Appends (taken out) (taken out')) bytes → Q status.Done) → ((error : CheckError) → IsRefusedFirst error bytes → Q status.NotSound) → Q status.Memory
       → (asked : Result JobData Field) (answer : Result (Unit {0}) Refusal) → Acts left faults taken counts asked source source' out out' answer → AsksToMigrate asked → Q (answered answer)
-  by_migrate Q sound refused memory (Ok migrate) (Ok x) a is = sound (given (IsMigrated (Appends (taken out) (taken out'))) bytes (left source') (rw reported at a))
-  by_migrate Q sound refused memory (Ok migrate) (Err refusal.ReadFault) a is = absurd (sure1 a.0)
-  by_migrate Q sound refused memory (Ok migrate) (Err refusal.WriteFault) a is = absurd (sure2 a.1)
-  by_migrate Q sound refused memory (Ok migrate) (Err refusal.TooLong) a is = absurd (short bytes (left source') len (rw reported at a.0))
-  by_migrate Q sound refused memory (Ok migrate) (Err refusal.Memory) a is = memory
-  by_migrate Q sound refused memory (Ok migrate) (Err (refusal.Unsound error)) a is = refused error (given (IsRefusedFirst error) bytes (left source') (rw reported at a.0))
-  by_migrate Q sound refused memory (Ok migrate) (Err _) a is = absurd a.0
-  by_migrate Q sound refused memory (Ok check) answer a is = absurd (cc)
-  by_migrate Q sound refused memory (Ok (refine depth)) answer a is = absurd (cc)
-  by_migrate Q sound refused memory (Ok (verify j)) answer a is = absurd (cc)
-  by_migrate Q sound refused memory (Ok (generate n)) answer a is = absurd (cc)
-  by_migrate Q sound refused memory (Ok (selftest n)) answer a is = absurd (cc)
-  by_migrate Q sound refused memory (Err f) answer a is = absurd (cc)
+  by_migrate Q sound refused memory asked answer a is = by answer (acted left faults taken counts source source' out out' asked migrate answer a is)
+    where
+      by : (answer : Result (Unit {0}) Refusal) → Acts left faults taken counts (Ok migrate) source source' out out' answer → Q (answered answer)
+      by (Ok x) a = sound (given (IsMigrated (Appends (taken out) (taken out'))) bytes (left source') (rw reported at a))
+      by (Err refusal.ReadFault) a = absurd (sure1 a.0)
+      by (Err refusal.WriteFault) a = absurd (sure2 a.1)
+      by (Err refusal.TooLong) a = absurd (short bytes (left source') len (rw reported at a.0))
+      by (Err refusal.Memory) a = memory
+      by (Err (refusal.Unsound error)) a = refused error (given (IsRefusedFirst error) bytes (left source') (rw reported at a.0))
+      by (Err _) a = absurd a.0
 
   -- a sound file of the first version is migrated, but for want of memory
   pub migrate_complete : SoundFilesPass → AnswersAreOne → (asked : Result JobData Field) (answer : Result (Unit {0}) Refusal) → Acts left faults taken counts asked source source' out out' answer → AsksToMigrate asked
@@ -649,39 +426,16 @@ module _ {S K : Type 0} (left : S → Option (List ℕ)) (faults : S → ℕ) (t
 -- ---- going on from a report
 
 module _ {S K : Type 0} (left : S → Option (List ℕ)) (faults : S → ℕ) (taken : K → Option (List ℕ)) (counts : K → ℕ) (source source' : S) (out out' : K) where
-  pub refined : (asked : Result JobData Field) (answer : Result (Unit {0}) Refusal) → Acts left faults taken counts asked source source' out out' answer → answered answer ≡ status.Done
-      → (depth : ℕ) → AsksToRefine asked depth → WasRead (IsRefinedTo (taken out) (taken out') depth) (left source) (left source')
-  refined (Ok (refine d)) (Ok x) a e depth is = let same : d ≡ depth = cc in subst (λ (i : ℕ). WasRead (IsRefinedTo (taken out) (taken out') i) (left source) (left source')) same a
-  refined (Ok migrate) (Ok x) a e depth is = absurd (cc)
-  refined (Ok check) (Ok x) a e depth is = absurd (cc)
-  refined (Ok (verify j)) (Ok x) a e depth is = absurd (cc)
-  refined (Ok (generate n)) (Ok x) a e depth is = absurd (cc)
-  refined (Ok (selftest n)) (Ok x) a e depth is = absurd (cc)
-  refined (Err f) (Ok x) a e depth is = absurd a.0
-  refined asked (Err r) a e depth is = absurd (never_done r e)
-
-  pub refined_part : (asked : Result JobData Field) (answer : Result (Unit {0}) Refusal) → Acts left faults taken counts asked source source' out out' answer → answered answer ≡ status.WriteFault
-      → (depth : ℕ) → AsksToRefine asked depth → WasRead (IsRefinedInPart (taken out) (taken out') depth) (left source) (left source')
-  refined_part asked (Ok x) a e depth is = absurd (cc)
-  refined_part (Ok (refine d)) (Err refusal.WriteFault) a e depth is = let same : d ≡ depth = cc in subst (λ (i : ℕ). WasRead (IsRefinedInPart (taken out) (taken out') i) (left source) (left source')) same a.0
-  refined_part (Ok (refine d)) (Err _) a e depth is = absurd (cc)
-  refined_part (Ok migrate) (Err _) a e depth is = absurd (cc)
-  refined_part (Ok check) (Err _) a e depth is = absurd (cc)
-  refined_part (Ok (verify j)) (Err _) a e depth is = absurd (cc)
-  refined_part (Ok (generate n)) (Err _) a e depth is = absurd (cc)
-  refined_part (Ok (selftest n)) (Err _) a e depth is = absurd (cc)
-  refined_part (Err f) (Err _) a e depth is = absurd (cc)
-
   -- where the report that was read is that of the right tree, so is the one that was written
   pub refined_right : TextsTellOneReport → (asked : Result JobData Field) (answer : Result (Unit {0}) Refusal) → Acts left faults taken counts asked source source' out out' answer → answered answer ≡ status.Done
       → (depth : ℕ) → AsksToRefine asked depth → WasRead (RefinesRight (taken out) (taken out') depth) (left source) (left source')
-  refined_right one asked answer a e depth is = read_as (λ bytes h. refines_right one (taken out) (taken out') depth bytes h) (refined asked answer a e depth is)
+  refined_right one asked answer a e depth is = read_as (λ bytes h. refines_right one (taken out) (taken out') depth bytes h) (done left faults taken counts source source' out out' asked (refine depth) answer a e is)
 
   module _ (depth : ℕ) (bytes : List ℕ) (reported : left source ≡ Some bytes) (len : length bytes ≤ file_limit) (sure1 : NoFault (faults source) (faults source')) (sure2 : NoFault (counts out) (counts out')) where
     -- an answer is one to the report that goes on, or to what refuses it, or for want of memory
     by_refine : (Q : Status → Type 0) → (IsRefinedTo (taken out) (taken out') depth bytes → Q status.Done) → ((why : Refusal) → IsRefusedDeeper depth why bytes → Q (status_of why)) → Q status.Memory
         → (asked : Result JobData Field) (answer : Result (Unit {0}) Refusal) → Acts left faults taken counts asked source source' out out' answer → AsksToRefine asked depth → Q (answered answer)
-    by_refine Q done refused memory (Ok (refine d)) answer a is = by answer (subst (λ (i : ℕ). Acts left faults taken counts (Ok (refine i)) source source' out out' answer) (cc) a)
+    by_refine Q done refused memory asked answer a is = by answer (acted left faults taken counts source source' out out' asked (refine depth) answer a is)
       where
         by : (answer : Result (Unit {0}) Refusal) → Acts left faults taken counts (Ok (refine depth)) source source' out out' answer → Q (answered answer)
         by (Ok x) a = done (given (IsRefinedTo (taken out) (taken out') depth) bytes (left source') (rw reported at a))
@@ -693,12 +447,6 @@ module _ {S K : Type 0} (left : S → Option (List ℕ)) (faults : S → ℕ) (t
         by (Err (refusal.Usage f)) a = refused (refusal.Usage f) (given (IsRefusedDeeper depth (refusal.Usage f)) bytes (left source') (rw reported at a.0))
         by (Err (refusal.Rows error)) a = refused (refusal.Rows error) (given (IsRefusedDeeper depth (refusal.Rows error)) bytes (left source') (rw reported at a.0))
         by (Err _) a = absurd a.0
-    by_refine Q done refused memory (Ok migrate) answer a is = absurd (cc)
-    by_refine Q done refused memory (Ok check) answer a is = absurd (cc)
-    by_refine Q done refused memory (Ok (verify j)) answer a is = absurd (cc)
-    by_refine Q done refused memory (Ok (generate n)) answer a is = absurd (cc)
-    by_refine Q done refused memory (Ok (selftest n)) answer a is = absurd (cc)
-    by_refine Q done refused memory (Err f) answer a is = absurd (cc)
 
     -- a report that isn't sound is refused as such
     pub refine_unsound : (asked : Result JobData Field) (answer : Result (Unit {0}) Refusal) → Acts left faults taken counts asked source source' out out' answer → AsksToRefine asked depth
@@ -760,24 +508,10 @@ module _ {S K : Type 0} (left : S → Option (List ℕ)) (faults : S → ℕ) (t
   refused_by : (job : Result JobData Field) (error : WordsError) → Asks job (Err error) → Acts {T = Unit {0}} left faults taken counts job source source out out (Err (words_refusal error))
   refused_by job (words.Usage f) is = subst (λ (job : Result JobData Field). Acts {T = Unit {0}} left faults taken counts job source source out out (Err (refusal.Usage f))) (sym is) (refl, refl, refl)
   refused_by (Ok (verify j)) words.Memory is = (tt, refl)
-  refused_by (Ok (generate n)) words.Memory is = absurd is
-  refused_by (Ok check) words.Memory is = absurd is
-  refused_by (Ok migrate) words.Memory is = absurd is
-  refused_by (Ok (refine depth)) words.Memory is = absurd is
-  refused_by (Ok (selftest n)) words.Memory is = absurd is
-  refused_by (Err field.Goal) words.Memory is = (λ e. absurd (cc), refl, refl)
-  refused_by (Err field.Bound) words.Memory is = (λ e. absurd (cc), refl, refl)
-  refused_by (Err field.Depth) words.Memory is = (λ e. absurd (cc), refl, refl)
-  refused_by (Err field.Precision) words.Memory is = (λ e. absurd (cc), refl, refl)
-  refused_by (Err field.Steps) words.Memory is = (λ e. absurd (cc), refl, refl)
-  refused_by (Err field.From) words.Memory is = (λ e. absurd (cc), refl, refl)
-  refused_by (Err field.Formula) words.Memory is = (λ e. absurd (cc), refl, refl)
-  refused_by (Err field.FormulaBound) words.Memory is = (λ e. absurd (cc), refl, refl)
-  refused_by (Err field.Reward) words.Memory is = (λ e. absurd (cc), refl, refl)
-  refused_by (Err field.Cap) words.Memory is = (λ e. absurd (cc), refl, refl)
-  refused_by (Err field.Budget) words.Memory is = (λ e. absurd (cc), refl, refl)
+  refused_by (Ok _) words.Memory is = absurd is
   refused_by (Err field.Words) words.Memory is = absurd is
   refused_by (Err field.Blocks) words.Memory is = absurd is
+  refused_by (Err _) words.Memory is = (λ e. absurd (cc), refl, refl)
 
   -- the words ask for no job, or there is no memory to read them
   pub refuses_line : (error : WordsError) (why : Refusal) → Asks (asked line) (Err error) → why ≡ words_refusal error → Acts {T = Unit {0}} left faults taken counts (wanted line) source source out out (Err why)

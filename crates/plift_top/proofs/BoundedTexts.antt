@@ -1,5 +1,6 @@
 -- What a text for a number of steps is, and what its leaves say.
-use Rattle.std.proofs.Common.{ℕ, List, Some, refl, Option, Ok, Err}
+use Rattle.std.proofs.Common.{ℕ, List, Some, Option}
+use Rattle.std.specs.List.{concat}
 use Rattle.lift_base.specs.Outside.{WroteSome}
 use Rattle.lift_base.specs.Laws.{Written}
 use Rattle.lift_grid.specs.Rectangle.{Spans}
@@ -12,11 +13,9 @@ use Rattle.lift_walk.specs.Sides.{IsAtDepth}
 use Rattle.lift_bounded.specs.Decided.{BoundedLeaf, DecidesWithin, IsOpenWithin}
 use Rattle.lift_bounded.specs.Laws.{AcceptingBoundsWithin, RejectingReachesWithin}
 use Rattle.lift_bounded.specs.Text.{tree_text}
-use Rattle.plift_words.specs.declared.query.Query.TheVariants as query
-use Rattle.plift_top.specs.Asked.{uncut}
-use Rattle.plift_top.specs.Bounded.{bounded_text, IsBoundedText, PartHolds}
+use Rattle.plift_top.specs.Bounded.{bounded_head, within_question, IsBoundedText, PartHolds}
 use Rattle.plift_top.specs.Steps.{IsTestedCase, WritesCase}
-use Rattle.plift_top.proofs.Parts.{parts_tile, parts_hold}
+use Rattle.plift_top.proofs.Parts.{written_by}
 
 -- what a decided leaf says holds
 leaf_holds : AcceptingBoundsWithin → RejectingReachesWithin → (k : CaseData) (bound : Bound) (h : ℕ) → IsCase k → (spans : Spans) (depth : ℕ) (l : BoundedLeaf) → IsAtDepth k depth spans → DecidesWithin k bound h spans l
@@ -27,21 +26,7 @@ leaf_holds accepting rejecting k bound h case spans depth (BoundedLeaf.reject q)
 -- what is said of a case's text holds
 pub reported_within : AcceptingBoundsWithin → RejectingReachesWithin → RootIsAtDepth → HalvesAreDeeper → TreesTile → LiveHasSpan
     → {K : Type 0} (taken : K → Option (List ℕ)) (faults : K → ℕ) (k : CaseData) (bound : Bound) (h : ℕ) (old new : K) (result : Written) → IsTestedCase k → WroteSome (IsBoundedText k bound h) taken faults old new result
-    → WritesCase taken faults (query.Within bound h) (uncut k.model) k old new result
-reported_within accepting rejecting root deeper tile live taken faults k bound h old new (Ok x) case w =
-    let tree = w.some.1.1.0 in
-    let right = w.some.1.1.1.0 in
-    let decides = DecidesWithin k bound h in
-    let opens = IsOpenWithin k bound h in
-    record {
-      tree = tree;
-      case = case.case;
-      weights = case.weights;
-      sums = case.sums;
-      right = right;
-      tiles = parts_tile deeper decides opens k case.case tile live k.root 0 tree (root k case.case) right;
-      schedulers = parts_hold deeper decides opens k case.case (PartHolds k bound h) (leaf_holds accepting rejecting k bound h case.case) (λ spans undecided v inside. tt) k.root 0 tree (root k case.case) right;
-      text = w.whole (bounded_text k bound h tree) (tree_text k h tree, (tree, (right, refl)), refl);
-    }
-reported_within accepting rejecting root deeper tile live taken faults k bound h old new (Err e) case w =
-    (record { case = case.case; weights = case.weights; sums = case.sums; front = λ tree right. w.part (bounded_text k bound h tree) (tree_text k h tree, (tree, (right, refl)), refl) }, w.cause)
+    → WritesCase taken faults k (within_question k bound h) old new result
+reported_within accepting rejecting root deeper tile live taken faults k bound h old new result case w =
+    written_by root deeper tile live (DecidesWithin k bound h) (IsOpenWithin k bound h) k case (PartHolds k bound h) (concat (bounded_head k bound h)) (tree_text k h)
+    (leaf_holds accepting rejecting k bound h case.case) (λ spans undecided v inside. tt) taken faults old new result w

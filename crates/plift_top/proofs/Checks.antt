@@ -20,15 +20,8 @@ read_as f h = record { text = h.bytes; consumed = h.consumed; ended = h.finished
 module _ {S : Type 0} (left : S → Option (List ℕ)) (faults : S → ℕ) (source source' : S) where
   -- why a check stops
   stops : (error : CheckError) → ChecksSource report_limit left faults source source' (Err error) → StopsCheck left faults source source' (check_refusal error)
-  stops check.Fault h = h
-  stops check.TooLong h = h
   stops check.Memory h = tt
-  stops (check.Text e) h = h
-  stops (check.Rows e) h = h
-  stops (check.Missed node miss) h = h
-  stops (check.Depth node) h = h
-  stops (check.Axis node) h = h
-  stops check.Rest h = h
+  stops _ h = h
 
   module _ {K : Type 0} (taken : K → Option (List ℕ)) (counts : K → ℕ) where
     by_refusal : (why : Refusal) (out : K) → StopsCheck left faults source source' why → Checks {T = Unit {0}} left faults taken counts source source' out out (Err why)
@@ -51,15 +44,8 @@ module _ {S : Type 0} (left : S → Option (List ℕ)) (faults : S → ℕ) (sou
 
 -- how much was read
 limits : (error : CheckError) (old new : Option (List ℕ)) → Keeps report_limit (Err error) old new → KeepsWithin {T = Unit {0}} report_limit (Err (check_refusal error)) old new
-limits check.Fault old new h = h
-limits check.TooLong old new h = h
 limits check.Memory old new h = h
-limits (check.Text e) old new h = h
-limits (check.Rows e) old new h = h
-limits (check.Missed node miss) old new h = h
-limits (check.Depth node) old new h = h
-limits (check.Axis node) old new h = h
-limits check.Rest old new h = h
+limits _ old new h = h
 
 pub stopped_limit : (error : CheckError) (result : Result (Unit {0}) Refusal) (old new : Option (List ℕ)) → IsErrAnd result (λ e. e ≡ check_refusal error) → Keeps report_limit (Err error) old new → KeepsWithin report_limit result old new
 stopped_limit error (Ok x) old new is h = absurd is

@@ -1,7 +1,7 @@
 -- What a text for a budget is, piece by piece, and what its leaves say.
-use Rattle.std.proofs.Common.{◌≡◌, ◌≤◌, ◌<◌, ◌+◌, ℕ, zero, suc, List, [], ◌∷◌, ◌++◌, map, drop, codes, Some, None, refl, sym, ap, ap₂, ◌∙◌, subst, arith, add-one, append_assoc, Option, Ok, Err, length}
+use Rattle.std.proofs.Common.{◌≡◌, ◌≤◌, ◌<◌, ◌+◌, ℕ, zero, suc, List, [], ◌∷◌, ◌++◌, map, drop, codes, Some, refl, sym, ap, ◌∙◌, subst, arith, add-one, append_assoc, Option, length}
 use Rattle.std.specs.Prelude.{All, ℤ, pos, unsigned_abs, slice_index_or}
-use Rattle.std.specs.List.{flat_map}
+use Rattle.std.specs.List.{concat, flat_map}
 use Prim.Native.Char.{code}
 use Rattle.lift_base.specs.Outside.{WroteSome}
 use Rattle.lift_base.specs.Laws.{Written}
@@ -17,11 +17,10 @@ use Rattle.lift_cost.specs.Laws.{CertificatesBoundCosts}
 use Rattle.lift_cost.specs.Text.{tree_text}
 use Rattle.lift_cost.specs.declared.question.Budget.{Budget}
 use Rattle.cert_text.specs.Report.{line, spaced}
-use Rattle.plift_words.specs.declared.query.Query.TheVariants as query
 use Rattle.plift_top.specs.Asked.{AskedModel}
-use Rattle.plift_top.specs.Cost.{asked_cost, fraction_word, cost_word, cost_text, IsCostText, CostPartHolds}
+use Rattle.plift_top.specs.Cost.{asked_cost, fraction_word, cost_word, cost_head, cost_question, IsCostText, CostPartHolds}
 use Rattle.plift_top.specs.Steps.{IsTestedCase, WritesCase}
-use Rattle.plift_top.proofs.Parts.{parts_tile, parts_hold}
+use Rattle.plift_top.proofs.Parts.{written_by}
 
 -- ---- the line of the costs
 
@@ -53,33 +52,17 @@ leaf_holds bounds k q case costs cap spans depth z at r = bounds k spans q.costs
 
 -- what is said of a case's text for what is asked
 reported_by : CertificatesBoundCosts → RootIsAtDepth → HalvesAreDeeper → TreesTile → LiveHasSpan
-    → {K : Type 0} (taken : K → Option (List ℕ)) (faults : K → ℕ) (k : CaseData) (old new : K) (result : Written) → IsTestedCase k → (budget : Budget) (cap : ℕ) (a : AskedModel) → All IsCost a.costs → 1 ≤ cap
-    → WroteSome (IsCostText k (asked_cost (record { cap = cap; budget = budget }) a)) taken faults old new result → WritesCase taken faults (query.Cost (record { cap = cap; budget = budget })) a k old new result
-reported_by bounds root deeper tile live taken faults k old new (Ok x) case budget cap a costs some w =
-    let q = asked_cost (record { cap = cap; budget = budget }) a in
-    let tree = w.some.1.1.0 in
-    let right = w.some.1.1.1.0 in
-    let decides = DecidesCost k q in
-    let opens = IsOpenCost k q in
-    record {
-      tree = tree;
-      case = case.case;
-      weights = case.weights;
-      sums = case.sums;
-      right = right;
-      tiles = parts_tile deeper decides opens k case.case tile live k.root 0 tree (root k case.case) right;
-      schedulers = parts_hold deeper decides opens k case.case (CostPartHolds k q) (leaf_holds bounds k q case.case costs some) (λ spans undecided. undecided) k.root 0 tree (root k case.case) right;
-      text = w.whole (cost_text k q tree) (tree_text tree, (tree, (right, refl)), refl);
-    }
-reported_by bounds root deeper tile live taken faults k old new (Err e) case budget cap a costs some w =
-    let q = asked_cost (record { cap = cap; budget = budget }) a in
-    (record { case = case.case; weights = case.weights; sums = case.sums; front = λ tree right. w.part (cost_text k q tree) (tree_text tree, (tree, (right, refl)), refl) }, w.cause)
+    → {K : Type 0} (taken : K → Option (List ℕ)) (faults : K → ℕ) (k : CaseData) (old new : K) (result : Written) → IsTestedCase k → (q : AskedCost) → All IsCost q.costs → 1 ≤ q.cap
+    → WroteSome (IsCostText k q) taken faults old new result → WritesCase taken faults k (cost_question k q) old new result
+reported_by bounds root deeper tile live taken faults k old new result case q costs some w =
+    written_by root deeper tile live (DecidesCost k q) (IsOpenCost k q) k case (CostPartHolds k q) (concat (cost_head k q)) tree_text
+    (leaf_holds bounds k q case.case costs some) (λ spans undecided. undecided) taken faults old new result w
 
 -- the same by what was asked
 pub reported_paid : CertificatesBoundCosts → RootIsAtDepth → HalvesAreDeeper → TreesTile → LiveHasSpan
     → {K : Type 0} (taken : K → Option (List ℕ)) (faults : K → ℕ) (k : CaseData) (costs : List CostData) (cap : ℕ) (budget : Budget) (old new : K) (result : Written) → IsTestedCase k → All IsCost costs → 1 ≤ cap
     → WroteSome (IsCostText k (record { costs = costs; cap = cap; budget = record { num = budget.num; den = budget.den } })) taken faults old new result → (a : AskedModel) → costs ≡ a.costs
-    → WritesCase taken faults (query.Cost (record { cap = cap; budget = budget })) a k old new result
+    → WritesCase taken faults k (cost_question k (asked_cost (record { cap = cap; budget = budget }) a)) old new result
 reported_paid bounds root deeper tile live taken faults k costs cap budget old new result case valid some w a paid =
-    reported_by bounds root deeper tile live taken faults k old new result case budget cap a (subst (All IsCost) paid valid) some
+    reported_by bounds root deeper tile live taken faults k old new result case (asked_cost (record { cap = cap; budget = budget }) a) (subst (All IsCost) paid valid) some
     (subst (λ (c : List CostData). WroteSome (IsCostText k (record { costs = c; cap = cap; budget = record { num = budget.num; den = budget.den } })) taken faults old new result) paid w)

@@ -140,14 +140,15 @@ module _ (plans : ChainsHaveOnePlan) (some : ChainsHaveAPlan) (k : CaseData) (l 
   holds_of_chain bound spans unknown h = tt
   holds_of_chain bound spans (split axis lower upper) h = tt
 
-  leaves_say : (bound : Bound) (leaves : List Leaf) → All (LeafHolds (lumped_case k l) bound) leaves → All (ChainLeafHolds k l bound) leaves
-  leaves_say bound leaves h i d lt = holds_of_chain bound (get_or leaves i d).spans (get_or leaves i d).node (h i d lt)
+  leaves_say : (bound : Bound) (leaves : List Leaf) → All (LeafHolds (lumped_case k l) bound) leaves → All (λ leaf. LeafHolds (lumped_case k l) bound leaf × ChainLeafHolds k l bound leaf) leaves
+  leaves_say bound leaves h i d lt = (h i d lt, holds_of_chain bound (get_or leaves i d).spans (get_or leaves i d).node (h i d lt))
 
   -- what comes of the quotient answers the chain's case
   pub of_quotient : {K T : Type 0} (taken : K → Option (List ℕ)) (counts : K → ℕ) (bound : Bound) (out out' : K) (result : Result T Refusal)
       → AnswersCase taken counts (query.Whole bound None) (uncut (lumped_case k l).model) (lumped_case k l) out out' result → AnswersCase taken counts (query.Lumped bound) (uncut k.model) k out out' result
-  of_quotient taken counts bound out out' (Ok x) h = record { l = l; is = is; reported = h; schedulers = leaves_say bound _ h.schedulers }
-  of_quotient taken counts bound out out' (Err refusal.WriteFault) h = (record { l = l; is = is; cut_off = h.0 }, h.1)
+  of_quotient taken counts bound out out' (Ok x) h =
+      (l, is, record { tree = h.tree; fits = h.fits; case = h.case; weights = h.weights; sums = h.sums; right = h.right; tiles = h.tiles; schedulers = leaves_say bound _ h.schedulers; text = h.text })
+  of_quotient taken counts bound out out' (Err refusal.WriteFault) (h, rose) = ((l, is, record { fits = h.fits; case = h.case; weights = h.weights; sums = h.sums; front = h.front }), rose)
   of_quotient taken counts bound out out' (Err refusal.Memory) h = h
   of_quotient taken counts bound out out' (Err refusal.TooWide) h = absurd (let e = h.0.0 in cc)
   of_quotient taken counts bound out out' (Err _) h = absurd h

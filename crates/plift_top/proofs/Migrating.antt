@@ -89,12 +89,7 @@ answered_first text (Ok leaves) other file is reported = record { file = file; f
 answered_first text (Err check.Memory) other file is reported = tt
 answered_first text (Err check.Fault) other file is reported = absurd reported
 answered_first text (Err check.TooLong) other file is reported = absurd reported
-answered_first text (Err (check.Text e)) other file is reported = inr (not_second text other, is (λ k. absurd (cc)))
-answered_first text (Err (check.Rows e)) other file is reported = inr (not_second text other, is (λ k. absurd (cc)))
-answered_first text (Err (check.Missed node miss)) other file is reported = inr (not_second text other, is (λ k. absurd (cc)))
-answered_first text (Err (check.Depth node)) other file is reported = inr (not_second text other, is (λ k. absurd (cc)))
-answered_first text (Err (check.Axis node)) other file is reported = inr (not_second text other, is (λ k. absurd (cc)))
-answered_first text (Err check.Rest) other file is reported = inr (not_second text other, is (λ k. absurd (cc)))
+answered_first text (Err _) other file is reported = inr (not_second text other, is (λ k. absurd (cc)))
 
 -- a sound file of the first version isn't refused
 pub never_refused : SoundFilesPass → AnswersAreOne → (bytes : List ℕ) (leaves : Summary) (error : CheckError) → IsSoundFirst bytes leaves → IsRefusedFirst error bytes → ⊥
@@ -130,12 +125,7 @@ module _ {K : Type 0} (taken : K → Option (List ℕ)) (counts : K → ℕ) (ou
   stopped_by check.Memory h = refl
   stopped_by check.Fault h = absurd h
   stopped_by check.TooLong h = absurd h
-  stopped_by (check.Text e) h = (h, refl)
-  stopped_by (check.Rows e) h = (h, refl)
-  stopped_by (check.Missed node miss) h = (h, refl)
-  stopped_by (check.Depth node) h = (h, refl)
-  stopped_by (check.Axis node) h = (h, refl)
-  stopped_by check.Rest h = (h, refl)
+  stopped_by _ h = (h, refl)
 
   -- nothing was written before the check was done
   pub stopped : (error : CheckError) (result : Result (Unit {0}) Refusal) → IsErrAnd result (λ e. e ≡ check_refusal error) → ChecksFirst text (Err error) → MigratesText taken counts text out out result

@@ -1,16 +1,20 @@
 -- The leaves of a right tree of halved rectangles: they tile its rectangle, and what each says holds.
-use Rattle.std.proofs.Common.{◌≡◌, ℕ, ◌+◌, List, [], ◌∷◌, ◌++◌, map, Some, None, refl, sym, ap, ap₂, ◌∙◌, subst}
+use Rattle.std.proofs.Common.{◌≡◌, ℕ, ◌+◌, List, [], ◌∷◌, ◌++◌, map, Some, None, Ok, Err, Option, refl, sym, ap, ap₂, ◌∙◌, subst}
 use Rattle.std.specs.Prelude.{All}
 use Rattle.std.proofs.lemmas.List.Elements.{All-append}
+use Rattle.lift_base.specs.Outside.{WroteSome}
+use Rattle.lift_base.specs.Laws.{Written}
 use Rattle.lift_grid.specs.Rectangle.{Spans}
 use Rattle.lift_grid.specs.Tree.{Tree, Tiles, HalvesSpans, leaves, lower_half, upper_half}
 use Rattle.lift_grid.specs.Laws.{TreesTile}
 use Rattle.corner_lift.specs.Case.{CaseData, IsCase}
 use Rattle.corner_lift.specs.Laws.{LiveHasSpan}
 use Rattle.lift_walk.specs.Halved.{Halved, IsRightBy}
-use Rattle.lift_walk.specs.Laws.{HalvesAreDeeper}
+use Rattle.lift_walk.specs.Laws.{RootIsAtDepth, HalvesAreDeeper}
 use Rattle.lift_walk.specs.Sides.{IsAtDepth}
 use Rattle.plift_top.specs.Parts.{Part, parts}
+use Rattle.plift_top.specs.Reported.{halved_question}
+use Rattle.plift_top.specs.Steps.{IsTestedCase, WritesCase}
 use Rattle.plift_top.proofs.Leaves.{only}
 
 map_append : {A B : Type 0} (f : A → B) (xs ys : List A) → map f (xs ++ ys) ≡ map f xs ++ map f ys
@@ -61,3 +65,26 @@ module _ {L : Type 0} where
         (parts_hold P holds undecided (lower_half axis spans) (depth + 1) lower halves.0 r.2) (parts_hold P holds undecided (upper_half axis spans) (depth + 1) upper halves.1 r.3)
     parts_hold P holds undecided spans depth (Halved.leaf l) at r = only P _ (holds spans depth l at r)
     parts_hold P holds undecided spans depth Halved.unknown at r = only P _ (undecided spans r.0)
+
+-- what is said of the text of a right tree, behind its head, holds
+pub written_by : {L K : Type 0} → RootIsAtDepth → HalvesAreDeeper → TreesTile → LiveHasSpan → (decides : Spans → L → Type 0) (opens : Spans → Type 0) (k : CaseData) → IsTestedCase k → (P : Part L → Type 0) (head : List ℕ) (text : Halved L → List ℕ)
+    → ((spans : Spans) (depth : ℕ) (l : L) → IsAtDepth k depth spans → decides spans l → P (record { spans = spans; leaf = Some l })) → ((spans : Spans) → opens spans → P (record { spans = spans; leaf = None }))
+    → (taken : K → Option (List ℕ)) (faults : K → ℕ) (old new : K) (result : Written)
+    → WroteSome (λ bytes. (nodes : List ℕ) × ((tree : Halved L) × (IsRightBy decides opens k k.root 0 tree × (nodes ≡ text tree))) × (bytes ≡ head ++ nodes)) taken faults old new result
+    → WritesCase taken faults k (halved_question k (λ tree. IsRightBy decides opens k k.root 0 tree) P (λ tree. head ++ text tree)) old new result
+written_by root deeper tile live decides opens k case P head text holds undecided taken faults old new (Ok x) w =
+    let tree = w.some.1.1.0 in
+    let right = w.some.1.1.1.0 in
+    record {
+      tree = tree;
+      fits = tt;
+      case = case.case;
+      weights = case.weights;
+      sums = case.sums;
+      right = right;
+      tiles = parts_tile deeper decides opens k case.case tile live k.root 0 tree (root k case.case) right;
+      schedulers = parts_hold deeper decides opens k case.case P holds undecided k.root 0 tree (root k case.case) right;
+      text = w.whole (head ++ text tree) (text tree, (tree, (right, refl)), refl);
+    }
+written_by root deeper tile live decides opens k case P head text holds undecided taken faults old new (Err e) w =
+    (record { fits = tt; case = case.case; weights = case.weights; sums = case.sums; front = λ tree right. w.part (head ++ text tree) (text tree, (tree, (right, refl)), refl) }, w.cause)

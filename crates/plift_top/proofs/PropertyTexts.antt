@@ -1,5 +1,6 @@
 -- What a text for a property is, and what its leaves say of until in the model that was read.
-use Rattle.std.proofs.Common.{◌≡◌, ℕ, Bool, List, Some, None, refl, sym, ◌∙◌, Option, Ok, Err}
+use Rattle.std.proofs.Common.{◌≡◌, ℕ, Bool, List, Some, None, refl, sym, ◌∙◌, Option}
+use Rattle.std.specs.List.{concat}
 use Rattle.std.specs.Option.{unwrap_or}
 use Rattle.lift_base.specs.Outside.{WroteSome}
 use Rattle.lift_base.specs.Laws.{Written}
@@ -18,11 +19,10 @@ use Rattle.property_text.specs.Restricted.{restricted, all_safe}
 use Rattle.property_text.specs.declared.op.Op.{Op}
 use Rattle.property_tree.specs.Leaves.{PropertyLeaf, IsBest, DecidesFor, IsOpenFor}
 use Rattle.property_tree.specs.Text.{tree_text}
-use Rattle.plift_words.specs.declared.query.Query.TheVariants as query
 use Rattle.plift_top.specs.Asked.{AskedModel, cut, safe_states}
-use Rattle.plift_top.specs.Property.{property_text, IsPropertyText, SaysOfUntil, HoldsFor}
+use Rattle.plift_top.specs.Property.{property_head, property_question, IsPropertyText, SaysOfUntil, HoldsFor}
 use Rattle.plift_top.specs.Steps.{IsTestedCase, WritesCase}
-use Rattle.plift_top.proofs.Parts.{parts_tile, parts_hold}
+use Rattle.plift_top.proofs.Parts.{written_by}
 
 -- the model that is verified is the cut one by the safe states, also where all are
 cut_by : CutOfNoneIsSame → (m : ModelData) (safe : Option (List Bool)) → elim safe [ Some s ↦ restricted m s | None ↦ m ] ≡ restricted m (unwrap_or safe (all_safe m))
@@ -46,22 +46,7 @@ module _ (all_at_least : UntilIsReachedByAll) (one_at_most : UntilIsBoundedForOn
 -- what is said of a case's text holds
 pub reported_for : UntilIsReachedByAll → UntilIsBoundedForOne → UntilIsBoundedForAll → UntilIsReachedByOne → CutOfNoneIsSame → RootIsAtDepth → HalvesAreDeeper → TreesTile → LiveHasSpan
     → {K : Type 0} (taken : K → Option (List ℕ)) (faults : K → ℕ) (k : CaseData) (op : Op) (bound : Bound) (old new : K) (result : Written) → IsTestedCase k → WroteSome (IsPropertyText k op bound) taken faults old new result
-    → (a : AskedModel) → k.model ≡ cut a → WritesCase taken faults (query.Property bound op) a k old new result
-reported_for all_at_least one_at_most all_at_most one_at_least same root deeper tile live taken faults k op bound old new (Ok x) case w a is =
-    let tree = w.some.1.1.0 in
-    let right = w.some.1.1.1.0 in
-    let decides = DecidesFor k op bound in
-    let opens = IsOpenFor k op bound in
-    record {
-      tree = tree;
-      case = case.case;
-      weights = case.weights;
-      sums = case.sums;
-      right = right;
-      tiles = parts_tile deeper decides opens k case.case tile live k.root 0 tree (root k case.case) right;
-      schedulers = parts_hold deeper decides opens k case.case (HoldsFor a k op bound) (leaf_holds all_at_least one_at_most all_at_most one_at_least same a k is case.case op bound)
-          (λ spans undecided. record { says = λ v inside. tt; settles = tt }) k.root 0 tree (root k case.case) right;
-      text = w.whole (property_text k op bound tree) (tree_text k op tree, (tree, (right, refl)), refl);
-    }
-reported_for all_at_least one_at_most all_at_most one_at_least same root deeper tile live taken faults k op bound old new (Err e) case w a is =
-    (record { case = case.case; weights = case.weights; sums = case.sums; front = λ tree right. w.part (property_text k op bound tree) (tree_text k op tree, (tree, (right, refl)), refl) }, w.cause)
+    → (a : AskedModel) → k.model ≡ cut a → WritesCase taken faults k (property_question a k op bound) old new result
+reported_for all_at_least one_at_most all_at_most one_at_least same root deeper tile live taken faults k op bound old new result case w a is =
+    written_by root deeper tile live (DecidesFor k op bound) (IsOpenFor k op bound) k case (HoldsFor a k op bound) (concat (property_head k op bound)) (tree_text k op)
+    (leaf_holds all_at_least one_at_most all_at_most one_at_least same a k is case.case op bound) (λ spans undecided. record { says = λ v inside. tt; settles = tt }) taken faults old new result w

@@ -58,12 +58,7 @@ refused_region job names error (Err e) is h = subst (λ (r : Refusal). NamesRoot
   where
     by : (error : RegionError) → Fails error (region names job.depth job.region) → NamesRoot job names (Err (region_refusal error))
     by fault.Memory h = tt
-    by fault.Syntax h = h
-    by fault.UnknownName h = h
-    by fault.Repeated h = h
-    by fault.Missing h = h
-    by fault.EmptyInterval h = h
-    by fault.Wide h = h
+    by _ h = h
 
 -- why a job stops, by the step that stops it
 module _ {S : Type 0} (left : S → Option (List ℕ)) (faults : S → ℕ) (job : VerifyData) (source source' : S) where

@@ -1,16 +1,15 @@
 -- What the steps of going on from a report come to.
-use Rattle.std.proofs.Common.{◌≡◌, ◌≢◌, ◌≤◌, ◌<◌, ◌-◌, ◌^◌, ◌⊎◌, ◌&&◌, inl, inr, ◌∙◌, ℕ, Bool, true, false, List, [], ◌∷◌, ◌++◌, ℤ, pos, ◌*ℤ◌, length, None, Some, Ok, Err, refl, sym, ap, ap₂, subst, arith, Result, IsErrAnd}
+use Rattle.std.proofs.Common.{◌≡◌, ◌≤◌, ◌<◌, ◌-◌, ◌^◌, ◌&&◌, inl, inr, ◌∙◌, ℕ, Bool, true, false, List, [], ◌++◌, ℤ, pos, ◌*ℤ◌, length, None, Some, Ok, Err, refl, sym, ap, ap₂, subst, arith, Result, IsErrAnd}
 use Rattle.std.specs.declared.option.Option.{Option}
-use Rattle.std.specs.Prelude.{IfOk, IfErr, if◌then◌else◌}
+use Rattle.std.specs.Prelude.{if◌then◌else◌}
 use Rattle.std.specs.List.{concat, list_all}
-use Rattle.std.specs.Io.KnownBytes.{Appends, Consumes, IsAtEnd}
-use Rattle.lift_base.specs.Outside.{Rose, AppendsFront, Wrote, WroteSome}
+use Rattle.std.specs.Io.KnownBytes.{Consumes, IsAtEnd}
+use Rattle.lift_base.specs.Outside.{WroteSome}
 use Rattle.lift_grid.specs.Rectangle.{Spans}
 use Rattle.lift_grid.specs.Region.{Region, is_narrow}
 use Rattle.lift_grid.specs.Parts.{region_of}
 use Rattle.lift_grid.specs.Tree.{Tree}
 use Rattle.lift_grid.specs.declared.rect.Grid.{Grid}
-use Rattle.lift_model.specs.Model.{ModelData}
 use Rattle.corner_lift.specs.Case.{CaseData, IsCase, case_of}
 use Rattle.lift_cert.specs.declared.bound.Bound.{Bound}
 use Rattle.lift_rows.specs.Fault.{IsFirstFault}
@@ -19,8 +18,8 @@ use Rattle.region_tree.specs.Bases.{IsRefined}
 use Rattle.cert_text.specs.Head.{HeadData, least_precision}
 use Rattle.cert_text.specs.Laws.{TextsTellOneReport, text_of, reported_lines}
 use Rattle.cert_text.specs.Cut.{CutsHead, top_bytes}
-use Rattle.cert_text.specs.Report.{report_text, tree_lines}
-use Rattle.cert_check.specs.Sound.{IsSound, IsSoundFile}
+use Rattle.cert_text.specs.Report.{tree_lines}
+use Rattle.cert_check.specs.Sound.{IsSoundFile}
 use Rattle.cert_check.specs.Answer.{Answers}
 use Rattle.cert_check.specs.Shown.{IsReportedOfFile, Says}
 use Rattle.cert_check.specs.Source.{file_limit}
@@ -30,9 +29,8 @@ use Rattle.cert_check.specs.declared.error.CheckError.TheVariants as check
 use Rattle.plift_words.specs.declared.job.Field.TheVariants.{Depth}
 use Rattle.plift_top.specs.Laws.{RefinedReportsAreSound}
 use Rattle.plift_top.specs.Refused.{check_refusal}
-use Rattle.plift_top.specs.Steps.{IsTestedCase}
 use Rattle.plift_top.specs.Verify.{WasRead, KeepsWithin}
-use Rattle.plift_top.specs.Refine.{IsSoundText, deeper_head, finer_by, region_in, LacksDepth, IsRefusedAtDepth, IsRefusedDeeper, IsFitting, IsRefinedTo, IsRefinedInPart, RefinesReport, RefinesText, IsOldTree, IsOld, RefinesOld, GivesRegion, AdmitsDeeper, CanGoOn, IsRefinedText, WritesRefined}
+use Rattle.plift_top.specs.Refine.{IsSoundText, deeper_head, finer_by, region_in, IsRefusedDeeper, IsFitting, IsRefinedTo, IsRefinedInPart, RefinesReport, RefinesText, IsOldTree, IsOld, RefinesOld, GivesRegion, AdmitsDeeper, CanGoOn, IsRefinedText, WritesRefined}
 use Rattle.plift_top.specs.declared.refusal.Refusal.{Refusal}
 use Rattle.plift_top.specs.declared.refusal.Refusal.TheVariants as refusal
 
@@ -149,12 +147,7 @@ module _ {K : Type 0} (taken : K → Option (List ℕ)) (counts : K → ℕ) (de
   stopped_by check.Memory says reported = refl
   stopped_by check.Fault says reported = absurd reported
   stopped_by check.TooLong says reported = absurd reported
-  stopped_by (check.Text e) says reported = (says (λ k. absurd (cc)), refl)
-  stopped_by (check.Rows e) says reported = (says (λ k. absurd (cc)), refl)
-  stopped_by (check.Missed node miss) says reported = (says (λ k. absurd (cc)), refl)
-  stopped_by (check.Depth node) says reported = (says (λ k. absurd (cc)), refl)
-  stopped_by (check.Axis node) says reported = (says (λ k. absurd (cc)), refl)
-  stopped_by check.Rest says reported = (says (λ k. absurd (cc)), refl)
+  stopped_by _ says reported = (says (λ k. absurd (cc)), refl)
 
   -- a text that isn't sound
   pub text_stopped : (error : CheckError) (result : Result (Unit {0}) Refusal) → IsErrAnd result (λ e. e ≡ check_refusal error) → Says {X = Summary} (λ s. s) (Answers text) (Err error) → IsReportedOfFile error → RefinesText taken counts depth text out out result
@@ -192,13 +185,7 @@ module _ (text : List ℕ) (leaves : Summary) (file : IsSoundFile text leaves) (
       by (Err refusal.Memory) same = same
       by (Err (refusal.Usage f)) (is, same) = ((h, file.tree, sound_text, is), same)
       by (Err (refusal.Rows error)) (is, same) = ((h, file.tree, sound_text, is), same)
-      by (Err (refusal.Model error)) (is, same) = absurd is
-      by (Err (refusal.Region error)) (is, same) = absurd is
-      by (Err (refusal.Unsound error)) (is, same) = absurd is
-      by (Err refusal.NotChain) (is, same) = absurd is
-      by (Err refusal.TooWide) (is, same) = absurd is
-      by (Err refusal.ReadFault) (is, same) = absurd is
-      by (Err refusal.TooLong) (is, same) = absurd is
+      by (Err _) (is, same) = absurd is
 
 -- ---- a text that was read whole
 

@@ -1,9 +1,9 @@
 -- Going on from a report: its text as a base, what is written, and what it comes to.
-use Rattle.std.proofs.Common.{◌≡◌, ◌≤◌, ◌<◌, ◌+◌, ◌-◌, ◌^◌, ◌⊎◌, inl, inr, ◌∙◌, ℕ, List, [], ◌∷◌, ◌++◌, ℤ, length, None, Some, Ok, Err, refl, sym, ap, ap₂, subst, arith, append-nil, append_assoc, Result, IsErr, IsErrAnd}
+use Rattle.std.proofs.Common.{◌≡◌, ◌≤◌, ◌+◌, ◌-◌, ◌∙◌, ℕ, List, [], ◌∷◌, ◌++◌, Ok, Err, refl, sym, ap, subst, arith, append-nil, append_assoc, Result, IsErr}
 use Rattle.std.specs.declared.option.Option.{Option}
-use Rattle.std.specs.Prelude.{IfOk, IfErr, is_some}
+use Rattle.std.specs.Prelude.{is_some}
 use Rattle.std.specs.List.{AllByRecursion, concat, flat_map}
-use Rattle.std.specs.Io.KnownBytes.{Appends, Consumes, IsAtEnd}
+use Rattle.std.specs.Io.KnownBytes.{Appends}
 use Rattle.std.proofs.KnownBytes.{Appends-trans}
 use Rattle.std.proofs.lemmas.Nat.{pow_pos}
 use Rattle.std.proofs.lemmas.List.Folds.{concat-append}
@@ -11,38 +11,32 @@ use Rattle.lift_base.specs.Outside.{Rose, AppendsFront, Wrote, WroteSome}
 use Rattle.lift_grid.specs.Rectangle.{Spans}
 use Rattle.lift_grid.specs.Tree.{Tree, lower_half, upper_half}
 use Rattle.lift_grid.specs.Tree.Tree.{accept, reject, unknown, split}
-use Rattle.lift_grid.specs.Region.{Region}
-use Rattle.lift_model.specs.Model.{ModelData}
-use Rattle.corner_lift.specs.Case.{CaseData, IsCase, case_of}
+use Rattle.corner_lift.specs.Case.{CaseData, IsCase}
 use Rattle.corner_lift.specs.Laws.{LowerPrecisionIsCase}
 use Rattle.lift_cert.specs.declared.bound.Bound.{Bound}
 use Rattle.lower_cert.specs.AnyRanks.{HeightFits}
 use Rattle.lift_finer.specs.Finer.{finer_spans}
-use Rattle.lift_finer.specs.Refined.{Refines, IsCertified, IsBase}
+use Rattle.lift_finer.specs.Refined.{IsBase}
 use Rattle.lift_refine.specs.Deeper.{deeper_case}
 use Rattle.lift_refine.specs.Laws.{CertifiedTreesAreBases, BasesWithRightTreesAreCertified, RefinedRightTrees}
-use Rattle.region_tree.specs.Bases.{IsGiven, IsRefined, IsOffered, OffersOne, HasPrecisionsTo, GoesOn as WalksOn}
+use Rattle.region_tree.specs.Bases.{IsGiven, IsRefined, IsOffered, OffersOne, HasPrecisionsTo}
 use Rattle.region_tree.specs.Laws.{RootIsAtDepth}
 use Rattle.region_tree.specs.Nodes.{Node, nodes}
 use Rattle.region_tree.specs.Nodes.Node.{split as split-node, accept as accept-node, reject as reject-node, unknown as unknown-node}
-use Rattle.region_tree.specs.Right.{IsRight, IsRightTree}
 use Rattle.region_tree.specs.Visits.{Shows, entries}
 use Rattle.region_tree.specs.declared.base.Given.TheVariants as given
 use Rattle.region_tree.specs.declared.visitor.Seen.{Seen}
 use Rattle.region_tree.specs.declared.visitor.Seen.TheVariants.{Kept, Failed}
-use Rattle.cert_text.specs.Head.{HeadData, least_precision, version}
+use Rattle.cert_text.specs.Head.{HeadData, least_precision}
 use Rattle.cert_text.specs.Forms.{IsHead, IsNode, IsTree}
-use Rattle.cert_text.specs.Laws.{text_of, reported_lines}
-use Rattle.cert_text.specs.Report.{line, version_words, model_lines, asked_lines, from_lines, top_lines, region_lines, head_lines, report_text, tree_lines, split_line, at_lines, accept_line, reject_lines, unknown_line}
+use Rattle.cert_text.specs.Report.{line, version_words, model_lines, asked_lines, from_lines, top_lines, region_lines, head_lines, report_text, split_line, at_lines, accept_line, reject_lines, unknown_line}
 use Rattle.cert_text.specs.Nodes as text
 use Rattle.cert_text.specs.Cut.{node_bytes, top_bytes, IsSplitOn, IsAcceptOf, IsRejectOf, IsOpenLeaf}
-use Rattle.cert_check.specs.Sound.{IsSound, IsSoundTree, IsSoundFile}
+use Rattle.cert_check.specs.Sound.{IsSound, IsSoundTree}
 use Rattle.cert_check.specs.Laws.{CanBeReported, SoundTreesAreReports}
 use Rattle.plift_top.specs.Laws.{RefinedReportsAreSound}
 use Rattle.plift_top.specs.RightReport.{node_text}
-use Rattle.plift_top.specs.Refine.{deeper_head, finer_by, RefinesTree, IsRefinedTree, IsOldTree, IsOld, CanGoOn, IsRefinedText, IsRefinedWhole, WritesRefined, reported_node, IsAhead}
-use Rattle.plift_top.specs.declared.refusal.Refusal.{Refusal}
-use Rattle.plift_top.specs.declared.refusal.Refusal.TheVariants as refusal
+use Rattle.plift_top.specs.Refine.{deeper_head, finer_by, IsOldTree, CanGoOn, IsRefinedText, reported_node, IsAhead}
 use Rattle.plift_top.proofs.Leaves.{entries_are}
 use Rattle.plift_top.proofs.Soundness.{can_be_reported}
 use Rattle.plift_top.proofs.Telling.{front_of, front_then}
@@ -68,27 +62,19 @@ cut h left rest Statement cuts n ns ahead =
 
 pub given_split : (h : HeadData) (n : Node) (i : ℕ) (bytes : List ℕ) → IsSplitOn (reported_node n) i → IsGiven (node_text h.asked h.from) n (given.Split i) bytes
 given_split h (split-node axis) i bytes is = is
-given_split h (accept-node u x) i bytes is = absurd is
-given_split h (reject-node u r) i bytes is = absurd is
-given_split h unknown-node i bytes is = absurd is
+given_split h _ i bytes is = absurd is
 
 pub given_accept : (h : HeadData) (n : Node) (bytes : List ℕ) → IsAcceptOf h (reported_node n) bytes → IsGiven (node_text h.asked h.from) n given.Accept bytes
 given_accept h (accept-node u x) bytes is = is ∙ sym (node_is h (accept-node u x))
-given_accept h (split-node axis) bytes is = absurd is
-given_accept h (reject-node u r) bytes is = absurd is
-given_accept h unknown-node bytes is = absurd is
+given_accept h _ bytes is = absurd is
 
 pub given_reject : (h : HeadData) (n : Node) (bytes : List ℕ) → IsRejectOf h (reported_node n) bytes → IsGiven (node_text h.asked h.from) n given.Reject bytes
 given_reject h (reject-node u r) bytes is = is ∙ sym (node_is h (reject-node u r))
-given_reject h (split-node axis) bytes is = absurd is
-given_reject h (accept-node u x) bytes is = absurd is
-given_reject h unknown-node bytes is = absurd is
+given_reject h _ bytes is = absurd is
 
 pub given_unknown : (h : HeadData) (n : Node) (bytes : List ℕ) → IsOpenLeaf (reported_node n) → IsGiven (node_text h.asked h.from) n given.Unknown bytes
 given_unknown h unknown-node bytes is = tt
-given_unknown h (split-node axis) bytes is = absurd is
-given_unknown h (accept-node u x) bytes is = absurd is
-given_unknown h (reject-node u r) bytes is = absurd is
+given_unknown h _ bytes is = absurd is
 
 -- ---- the base of a report
 
@@ -98,9 +84,7 @@ every P (x ∷ xs) ys h g = (h.0, every P xs ys h.1 g)
 
 nodes_fit : (h : HeadData) (t : Tree) → IsTree h t → AllByRecursion (λ n. IsNode h (reported_node n)) (nodes t)
 nodes_fit h (split axis lower upper) fit = (fit.0, every (λ n. IsNode h (reported_node n)) (nodes lower) (nodes upper) (nodes_fit h lower fit.1) (nodes_fit h upper fit.2))
-nodes_fit h (accept u x) fit = (fit, tt)
-nodes_fit h (reject u r) fit = (fit, tt)
-nodes_fit h unknown fit = (fit, tt)
+nodes_fit h _ fit = (fit, tt)
 
 precise : (h : HeadData) (t : Tree) → IsTree h t → HasPrecisionsTo h.asked.w t
 precise h (split axis lower upper) fit = (precise h lower fit.1, precise h upper fit.2)
@@ -253,9 +237,7 @@ module _ {K : Type 0} (k : CaseData) (bound : Bound) (h : HeadData) (left : List
 module _ (fits : HeightFits) (lowers : LowerPrecisionIsCase) (depth : ℕ) (h : HeadData) (is : IsHead h) (case : IsCase (deeper_head depth h).asked) where
   refined_reported : (spans : Spans) (place : ℕ) (t refined : Tree) → IsTree h t → IsRefined (deeper_head depth h).asked (least_precision h) h.bound spans place t refined → CanBeReported (deeper_head depth h) refined
   refined_reported spans place (split axis lower upper) (split other low up) fit r = (refined_reported (lower_half axis spans) (place + 1) lower low fit.1 r.1, refined_reported (upper_half axis spans) (place + 1) upper up fit.2 r.2)
-  refined_reported spans place (split axis lower upper) (accept u x) fit r = absurd r
-  refined_reported spans place (split axis lower upper) (reject u q) fit r = absurd r
-  refined_reported spans place (split axis lower upper) unknown fit r = absurd r
+  refined_reported spans place (split axis lower upper) _ fit r = absurd r
   refined_reported spans place (accept u x) refined fit r = subst (CanBeReported (deeper_head depth h)) r fit.0
   refined_reported spans place (reject u q) refined fit r = subst (CanBeReported (deeper_head depth h)) r (fit.0, fit.1.rate.2)
   refined_reported spans place unknown refined fit r = can_be_reported fits lowers (deeper_head depth h).asked h.from h.bound case is.range.0 spans place refined r

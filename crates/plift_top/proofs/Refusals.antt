@@ -36,18 +36,19 @@ never_refused none job (Ok n) m root is named admitted can why h =
     never_of none job m root named admitted can (lacks_chain job.query m.kind) refl why (subst (λ (n : ModelData). IsRefusedOf (lacks_chain job.query n.kind) job n why) same h)
 never_refused none job (Err e) m root is named admitted can why h = absurd (cc)
 
+-- a job whose region names a rectangle is refused over it by its rows
+rows_over : (job : VerifyData) (m : ModelData) (root : Region) (named : Result Region RegionError) → named ≡ Ok root → (why : Refusal) → IsRefusedOver job m named why → status_of why ≡ status.RowsRefused
+rows_over job m root (Ok r) is (refusal.Rows error) h = refl
+rows_over job m root (Ok r) is refusal.TooWide h = refl
+rows_over job m root (Ok r) is _ h = absurd h
+rows_over job m root (Err e) is why h = absurd (cc)
+
 -- two refusals over a region have one status
 one_over : (job : VerifyData) (m : ModelData) (named : Result Region RegionError) (a b : Refusal) → IsRefusedOver job m named a → IsRefusedOver job m named b → status_of a ≡ status_of b
 one_over job m (Err e) (refusal.Region f) (refusal.Region g) h k = refl
 one_over job m (Err e) (refusal.Region f) _ h k = absurd k
 one_over job m (Err e) _ b h k = absurd h
-one_over job m (Ok r) (refusal.Rows e) (refusal.Rows f) h k = refl
-one_over job m (Ok r) (refusal.Rows e) refusal.TooWide h k = refl
-one_over job m (Ok r) (refusal.Rows e) _ h k = absurd k
-one_over job m (Ok r) refusal.TooWide (refusal.Rows f) h k = refl
-one_over job m (Ok r) refusal.TooWide refusal.TooWide h k = refl
-one_over job m (Ok r) refusal.TooWide _ h k = absurd k
-one_over job m (Ok r) _ b h k = absurd h
+one_over job m (Ok r) a b h k = rows_over job m r (Ok r) refl a h ∙ sym (rows_over job m r (Ok r) refl b k)
 
 -- and so have two at it
 one_of : (job : VerifyData) (m : ModelData) (lacks : Bool) (a b : Refusal) → IsRefusedOf lacks job m a → IsRefusedOf lacks job m b → status_of a ≡ status_of b
@@ -61,13 +62,7 @@ one_status job (Err e) (refusal.Model f) (refusal.Model g) h k = refl
 one_status job (Err e) (refusal.Model f) _ h k = absurd k
 one_status job (Err e) _ b h k = absurd h
 
--- a job whose region names a rectangle, and that doesn't lack a chain, is refused by its rows
-rows_over : (job : VerifyData) (m : ModelData) (root : Region) (named : Result Region RegionError) → named ≡ Ok root → (why : Refusal) → IsRefusedOver job m named why → status_of why ≡ status.RowsRefused
-rows_over job m root (Ok r) is (refusal.Rows error) h = refl
-rows_over job m root (Ok r) is refusal.TooWide h = refl
-rows_over job m root (Ok r) is _ h = absurd h
-rows_over job m root (Err e) is why h = absurd (cc)
-
+-- and one that doesn't lack a chain is refused so at its model
 rows_of : (job : VerifyData) (m : ModelData) (root : Region) → region m.names job.depth job.region ≡ Ok root → (lacks : Bool) → lacks ≡ false → (why : Refusal) → IsRefusedOf lacks job m why → status_of why ≡ status.RowsRefused
 rows_of job m root named true chain why h = absurd (cc)
 rows_of job m root named false chain why h = rows_over job m root (region m.names job.depth job.region) named why h

@@ -17,8 +17,7 @@ use Rattle.region_tree.specs.Visits.{Visits, Walks, entries}
 use Rattle.region_tree.specs.declared.visitor.Seen.{Seen}
 use Rattle.region_tree.specs.declared.visitor.Seen.TheVariants.{Kept, Failed}
 use Rattle.cert_text.specs.Report.{head_lines, report_text}
-use Rattle.plift_words.specs.declared.query.Query.TheVariants as query
-use Rattle.plift_top.specs.Asked.{uncut}
+use Rattle.plift_top.specs.Reported.{whole_question}
 use Rattle.plift_top.specs.RightReport.{IsRange, IsRightReport, least, node_text}
 use Rattle.plift_top.specs.Steps.{IsTestedCase, WritesCase}
 use Rattle.plift_top.proofs.Leaves.{entries_are, leaves_hold, range_begins}
@@ -97,20 +96,20 @@ module _ {K : Type 0} (k : CaseData) (from : Option ℕ) (bound : Bound) (taken 
 -- what is said of a case's report holds
 pub reported : AcceptingBounds → RejectingReaches → LowerPrecisionIsCase → RootIsAtDepth → HalvesAreDeeper → RightTreesTile
     → {K : Type 0} (taken : K → Option (List ℕ)) (faults : K → ℕ) (k : CaseData) (from : Option ℕ) (bound : Bound) (old new : K) (result : Written) → IsTestedCase k → IsRange k from
-    → WroteSome (IsRightReport k from bound) taken faults old new result → WritesCase taken faults (query.Whole bound from) (uncut k.model) k old new result
+    → WroteSome (IsRightReport k from bound) taken faults old new result → WritesCase taken faults k (whole_question k from bound) old new result
 reported accepting reached lower root deeper tile taken faults k from bound old new (Ok x) case range w =
     let tree = w.some.1.0 in
     let right = w.some.1.1 in
     record {
       tree = tree;
-      range = range;
+      fits = range;
       case = case.case;
       weights = case.weights;
       sums = case.sums;
       right = right;
       tiles = tile k (least k from) bound tree case.case right;
       schedulers = leaves_hold accepting reached lower deeper k bound case.case (least k from) (range_begins k from case.case range).0 k.root 0 tree (root k case.case) right;
-      report = w.whole (report_text k from bound tree) (tree, right, refl);
+      text = w.whole (report_text k from bound tree) (tree, right, refl);
     }
 reported accepting reached lower root deeper tile taken faults k from bound old new (Err e) case range w =
-    (record { range = range; case = case.case; weights = case.weights; sums = case.sums; front = λ tree right. w.part (report_text k from bound tree) (tree, right, refl) }, w.cause)
+    (record { fits = range; case = case.case; weights = case.weights; sums = case.sums; front = λ tree right. w.part (report_text k from bound tree) (tree, right, refl) }, w.cause)

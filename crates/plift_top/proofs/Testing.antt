@@ -25,7 +25,7 @@ use Rattle.cert_check.specs.declared.error.CheckError.TheVariants as check
 use Rattle.plift_words.specs.Job.{VerifyData}
 use Rattle.plift_top.specs.Refused.{check_refusal}
 use Rattle.plift_top.specs.Asked.{AskedModel, uncut, cut, asked_model, verified_model}
-use Rattle.plift_top.specs.Reported.{IsReported, IsCutOff}
+use Rattle.plift_top.specs.Reported.{IsReported, IsCutOff, whole_question}
 use Rattle.plift_top.specs.Verify.{Makes, IsRefused, Verifies}
 use Rattle.plift_top.specs.Laws.{RightReportsAreSound}
 use Rattle.plift_top.specs.Selftest.{one_half, ladder_job, IsLadderTree, ladder_report, tested_line, HasLongReport, IsLadderReport, GivesWithin, ReportsLadder, Selftests}
@@ -57,6 +57,14 @@ text_fits few n h bytes part full = (let most = few n h in let least = front_is_
 
 -- ---- the report
 
+-- the bytes are the report of a case for the bound 1/2
+abbrev Told : List ℕ → CaseData → Type 0
+Told bytes k = IsReported (Some []) (Some bytes) k (whole_question k None one_half)
+
+-- they are a front of it
+abbrev ToldInPart : List ℕ → CaseData → Type 0
+ToldInPart bytes k = IsCutOff (Some []) (Some bytes) k (whole_question k None one_half)
+
 module _ (n : ℕ) (some : 1 ≤ n) (few : n ≤ most_blocks) (texts : TextIsShort) (reads : TextIsLadder) (cases : LadderIsCase) (names : TextNamesRegion) where
   -- a text and the job make the ladder's case
   ladder_case_is : (P : CaseData → Type 0) → Makes (λ a. P) ladder_job (ladder_text n) → P (ladder_case n)
@@ -75,10 +83,10 @@ module _ (n : ℕ) (some : 1 ≤ n) (few : n ≤ most_blocks) (texts : TextIsSho
   is_sound law tree right = law (ladder_text n) (codes "done") (ladder n) ladder_region ladder_precision None one_half tree (reads n some few) (cases n some few) (λ v e. absurd (cc)) half_is_reported right
 
   -- what was written, whole: a report that fits
-  pub whole_report : RightReportsAreSound → (bytes : List ℕ) → Makes (λ a. IsReported (Some []) (Some bytes) None one_half) ladder_job (ladder_text n) → length bytes ≤ file_limit → IsLadderReport n bytes
+  pub whole_report : RightReportsAreSound → (bytes : List ℕ) → Makes (λ a. Told bytes) ladder_job (ladder_text n) → length bytes ≤ file_limit → IsLadderReport n bytes
   whole_report law bytes m fits =
-      let h = ladder_case_is (IsReported (Some []) (Some bytes) None one_half) m in
-      let is : bytes ≡ ladder_report n h.tree = h.report in
+      let h = ladder_case_is (Told bytes) m in
+      let is : bytes ≡ ladder_report n h.tree = h.text in
       record {
         tree = h.tree;
         tested = record { case = cases n some few; right = h.right; short = omega (arith, ap length is) };
@@ -87,22 +95,22 @@ module _ (n : ℕ) (some : 1 ≤ n) (few : n ≤ most_blocks) (texts : TextIsSho
       }
 
   -- or one that doesn't
-  pub long_report : RightTreesAreOne → (bytes : List ℕ) → Makes (λ a. IsReported (Some []) (Some bytes) None one_half) ladder_job (ladder_text n) → file_limit < length bytes → HasLongReport n
+  pub long_report : RightTreesAreOne → (bytes : List ℕ) → Makes (λ a. Told bytes) ladder_job (ladder_text n) → file_limit < length bytes → HasLongReport n
   long_report one bytes m long tree right =
-      let h = ladder_case_is (IsReported (Some []) (Some bytes) None one_half) m in
-      let is : bytes ≡ ladder_report n h.tree = h.report in
+      let h = ladder_case_is (Told bytes) m in
+      let is : bytes ≡ ladder_report n h.tree = h.text in
       let same : h.tree ≡ tree = one (ladder_case n) ladder_precision one_half h.tree tree (cases n some few) (omega arith) h.right right in
       omega (arith, ap length is, ap (λ (t : Tree). length (ladder_report n t)) same)
 
   -- where the room was filled, the report is longer than a text may be
-  pub cut_report : (bytes : List ℕ) → Makes (λ a. IsCutOff (Some []) (Some bytes) None one_half) ladder_job (ladder_text n) → length bytes ≡ file_limit + 1 → HasLongReport n
+  pub cut_report : (bytes : List ℕ) → Makes (λ a. ToldInPart bytes) ladder_job (ladder_text n) → length bytes ≡ file_limit + 1 → HasLongReport n
   cut_report bytes m full tree right =
-      let h = ladder_case_is (IsCutOff (Some []) (Some bytes) None one_half) m in
+      let h = ladder_case_is (ToldInPart bytes) m in
       let least = front_is_short bytes (ladder_report n tree) (h.front tree right) in
       omega arith
 
   -- so what is given back of it is the report, or that it is too long
-  pub within_report : RightReportsAreSound → RightTreesAreOne → (bytes : Vec ℕ Global) (result : Result (Vec ℕ Global) Refusal) → Makes (λ a. IsReported (Some []) (Some bytes.items) None one_half) ladder_job (ladder_text n) → GivesWithin file_limit bytes result → ReportsLadder n result
+  pub within_report : RightReportsAreSound → RightTreesAreOne → (bytes : Vec ℕ Global) (result : Result (Vec ℕ Global) Refusal) → Makes (λ a. Told bytes.items) ladder_job (ladder_text n) → GivesWithin file_limit bytes result → ReportsLadder n result
   within_report law one bytes (Ok same) m h = subst (λ (b : Vec ℕ Global). IsLadderReport n b.items) (sym h.0) (whole_report law bytes.items m h.1)
   within_report law one bytes (Err refusal.TooLong) m h = long_report one bytes.items m h
   within_report law one bytes (Err _) m h = absurd h
@@ -114,12 +122,12 @@ module _ (n : ℕ) (some : 1 ≤ n) (few : n ≤ most_blocks) (texts : TextIsSho
   module _ {S K : Type 0} (source source' : S) (out out' : K) (left : S → Option (List ℕ)) (faults : S → ℕ) (taken : K → Option (List ℕ)) (counts : K → ℕ) (bytes : List ℕ)
       (reported : left source ≡ Some (ladder_text n)) (calm : faults source' ≡ 0) (empty : taken out ≡ Some []) (took : taken out' ≡ Some bytes) (none : counts out ≡ 0) where
     -- what verifying the ladder came to, where its report was written
-    pub verified_ladder : Verifies {T = Unit {0}} left faults taken counts ladder_job source source' out out' (Ok tt) → Makes (λ a. IsReported (Some []) (Some bytes) None one_half) ladder_job (ladder_text n)
-    verified_ladder v = given (Makes (λ a. IsReported (Some []) (Some bytes) None one_half) ladder_job) (ladder_text n) (left source') (rw (reported, empty, took) at v)
+    pub verified_ladder : Verifies {T = Unit {0}} left faults taken counts ladder_job source source' out out' (Ok tt) → Makes (λ a. Told bytes) ladder_job (ladder_text n)
+    verified_ladder v = given (Makes (λ a. Told bytes) ladder_job) (ladder_text n) (left source') (rw (reported, empty, took) at v)
 
     -- where there was no room for it
-    pub overflowed : Verifies {T = Unit {0}} left faults taken counts ladder_job source source' out out' (Err refusal.WriteFault) → Makes (λ a. IsCutOff (Some []) (Some bytes) None one_half) ladder_job (ladder_text n) × (0 < counts out')
-    overflowed v = (given (Makes (λ a. IsCutOff (Some []) (Some bytes) None one_half) ladder_job) (ladder_text n) (left source') (rw (reported, empty, took) at v.0), counted (counts out') (rw none at v.1))
+    pub overflowed : Verifies {T = Unit {0}} left faults taken counts ladder_job source source' out out' (Err refusal.WriteFault) → Makes (λ a. ToldInPart bytes) ladder_job (ladder_text n) × (0 < counts out')
+    overflowed v = (given (Makes (λ a. ToldInPart bytes) ladder_job) (ladder_text n) (left source') (rw (reported, empty, took) at v.0), counted (counts out') (rw none at v.1))
 
     -- else memory ran out
     pub stopped_short : AdmittedHasNoFault → (faults source ≡ 0) → (why : Refusal) → (why ≡ refusal.WriteFault → ⊥) → Verifies {T = Unit {0}} left faults taken counts ladder_job source source' out out' (Err why) → why ≡ refusal.Memory
@@ -151,7 +159,7 @@ module _ (n : ℕ) (some : 1 ≤ n) (few : n ≤ most_blocks) (texts : TextIsSho
         → (kept : Vec ℕ Global) → kept.items ≡ bytes → (result : Result (Vec ℕ Global) Refusal) → GivesWithin file_limit kept result → ReportsLadder n result
     given_report law one job same v kept is result h =
         let m = verified_ladder (subst (λ (j : VerifyData). Verifies {T = Unit {0}} left faults taken counts j source source' out out' (Ok tt)) same v) in
-        within_report law one kept result (subst (λ (b : List ℕ). Makes (λ a. IsReported (Some []) (Some b) None one_half) ladder_job (ladder_text n)) (sym is) m) h
+        within_report law one kept result (subst (λ (b : List ℕ). Makes (λ a. Told b) ladder_job (ladder_text n)) (sym is) m) h
 
 -- ---- its check
 

@@ -1,22 +1,18 @@
 -- What `bounded` writes of a case: the text of its right tree for a number of steps, and what the leaves of that tree say.
-use Rattle.std.specs.Prelude.{◌≡◌, ⊤, ℕ, List, [], ◌∷◌, ◌++◌, map, codes, All, Option, Some, None}
+use Rattle.std.specs.Prelude.{◌≡◌, ⊤, ℕ, List, [], ◌∷◌, ◌++◌, codes, Option, Some, None}
 use Rattle.std.specs.List.{concat}
-use Rattle.std.specs.declared.option.Option.{Option}
-use Rattle.std.specs.Io.KnownBytes.{Appends}
-use Rattle.lift_base.specs.Outside.{AppendsFront}
 use Rattle.lift_poly.specs.Polynomial.{Valuation}
 use Rattle.lift_grid.specs.Rectangle.{Inside}
-use Rattle.lift_grid.specs.Tree.{Tiles}
-use Rattle.corner_lift.specs.Case.{CaseData, IsCase}
+use Rattle.corner_lift.specs.Case.{CaseData}
 use Rattle.lift_walk.specs.Halved.{Halved}
 use Rattle.lift_cert.specs.declared.bound.Bound.{Bound}
-use Rattle.lift_rows.specs.Admitted.{HasWeightsFromZero, HasSumsOfTotal}
 use Rattle.cert_text.specs.Report.{line, number_words, bound_words}
 use Rattle.lift_bounded.specs.Within.{IsBoundedWithin, IsReachedWithin}
 use Rattle.lift_bounded.specs.Decided.{BoundedLeaf, IsRightWithin}
 use Rattle.lift_bounded.specs.Text.{tree_text, IsTreeText}
 use Rattle.plift_top.specs.Heads.{head_of}
-use Rattle.plift_top.specs.Parts.{Part, parts}
+use Rattle.plift_top.specs.Parts.{Part}
+use Rattle.plift_top.specs.Reported.{CaseQuestion, halved_question}
 
 -- ---- the text
 
@@ -52,22 +48,8 @@ SaysWithin k bound h v None = ⊤
 abbrev pub PartHolds : CaseData → Bound → ℕ → Part BoundedLeaf → Type 0
 PartHolds k bound h part = (v : Valuation) → Inside k.d part.spans v → SaysWithin k bound h v part.leaf
 
--- ---- what is written
+-- ---- what is asked
 
--- The text of a case for a number of steps was appended, whole: that of its right tree. The tree's leaves tile the root, and what each says holds everywhere inside its rectangle. At each valuation inside the root each row of the case is a distribution.
-pub record IsReportedWithin (old new : Option (List ℕ)) (bound : Bound) (h : ℕ) (k : CaseData) : Type 0 where
-  pub tree : Halved BoundedLeaf
-  pub case : IsCase k
-  pub weights : HasWeightsFromZero k
-  pub sums : HasSumsOfTotal k
-  pub right : IsRightWithin k bound h k.root 0 tree
-  pub tiles : Tiles k.d k.root (map (λ part. part.spans) (parts k.root tree))
-  pub schedulers : All (PartHolds k bound h) (parts k.root tree)
-  pub text : Appends old new (bounded_text k bound h tree)
-
--- A front of that text was appended: whichever tree is right, a front of its text.
-pub record IsCutOffWithin (old new : Option (List ℕ)) (bound : Bound) (h : ℕ) (k : CaseData) : Type 0 where
-  pub case : IsCase k
-  pub weights : HasWeightsFromZero k
-  pub sums : HasSumsOfTotal k
-  pub front : (tree : Halved BoundedLeaf) → IsRightWithin k bound h k.root 0 tree → AppendsFront old new (bounded_text k bound h tree)
+-- asked for a bound within a number of steps
+abbrev pub within_question : CaseData → Bound → ℕ → CaseQuestion
+within_question k bound h = halved_question k (λ tree. IsRightWithin k bound h k.root 0 tree) (λ part. PartHolds k bound h part) (λ tree. bounded_text k bound h tree)

@@ -1,17 +1,13 @@
 -- What `cost` writes of a case: the text of its right tree for costs, a cap and a budget, and what the leaves of that tree say of what is paid before the goal.
-use Rattle.std.specs.Prelude.{◌≡◌, ⊤, ℕ, List, [], ◌∷◌, ◌++◌, map, codes, All, ℤ, Some, None}
+use Rattle.std.specs.Prelude.{◌≡◌, ℕ, List, [], ◌∷◌, ◌++◌, map, codes, ℤ, Some, None}
 use Rattle.std.specs.Fmt.{decimal}
 use Rattle.std.specs.List.{concat}
 use Rattle.std.specs.declared.option.Option.{Option}
-use Rattle.std.specs.Io.KnownBytes.{Appends}
 use Prim.Native.Char.{code}
-use Rattle.lift_base.specs.Outside.{AppendsFront}
 use Rattle.lift_poly.specs.Polynomial.{Valuation}
 use Rattle.lift_grid.specs.Rectangle.{Spans, Inside}
-use Rattle.lift_grid.specs.Tree.{Tiles}
-use Rattle.corner_lift.specs.Case.{CaseData, IsCase}
+use Rattle.corner_lift.specs.Case.{CaseData}
 use Rattle.lift_walk.specs.Halved.{Halved}
-use Rattle.lift_rows.specs.Admitted.{HasWeightsFromZero, HasSumsOfTotal}
 use Rattle.lift_costs.specs.Costs.{CostData}
 use Rattle.lift_cost.specs.Paid.{IsPaidAt}
 use Rattle.lift_cost.specs.Decided.{AskedCost, IsOpenCost, IsRightCost}
@@ -20,7 +16,8 @@ use Rattle.cert_text.specs.Report.{line, number_words}
 use Rattle.plift_words.specs.declared.query.CostLimits.{CostLimits}
 use Rattle.plift_top.specs.Asked.{AskedModel}
 use Rattle.plift_top.specs.Heads.{head_of}
-use Rattle.plift_top.specs.Parts.{Part, parts}
+use Rattle.plift_top.specs.Parts.{Part}
+use Rattle.plift_top.specs.Reported.{CaseQuestion, halved_question}
 
 -- what is asked by a cap and a budget of a model that was read with costs
 abbrev pub asked_cost : CostLimits → AskedModel → AskedCost
@@ -75,22 +72,8 @@ SaysOfCost k q spans None = IsOpenCost k q spans
 abbrev pub CostPartHolds : CaseData → AskedCost → Part (List ℤ) → Type 0
 CostPartHolds k q part = SaysOfCost k q part.spans part.leaf
 
--- ---- what is written
+-- ---- what is asked
 
--- The text of a case for what is asked was appended, whole: that of its right tree. The tree's leaves tile the root, and what each says of its rectangle holds. At each valuation inside the root each row of the case is a distribution.
-pub record IsReportedPaid (old new : Option (List ℕ)) (q : AskedCost) (k : CaseData) : Type 0 where
-  pub tree : Halved (List ℤ)
-  pub case : IsCase k
-  pub weights : HasWeightsFromZero k
-  pub sums : HasSumsOfTotal k
-  pub right : IsRightCost k q k.root 0 tree
-  pub tiles : Tiles k.d k.root (map (λ part. part.spans) (parts k.root tree))
-  pub schedulers : All (CostPartHolds k q) (parts k.root tree)
-  pub text : Appends old new (cost_text k q tree)
-
--- A front of that text was appended: whichever tree is right, a front of its text.
-pub record IsCutOffPaid (old new : Option (List ℕ)) (q : AskedCost) (k : CaseData) : Type 0 where
-  pub case : IsCase k
-  pub weights : HasWeightsFromZero k
-  pub sums : HasSumsOfTotal k
-  pub front : (tree : Halved (List ℤ)) → IsRightCost k q k.root 0 tree → AppendsFront old new (cost_text k q tree)
+-- asked for a budget
+abbrev pub cost_question : CaseData → AskedCost → CaseQuestion
+cost_question k q = halved_question k (λ tree. IsRightCost k q k.root 0 tree) (λ part. CostPartHolds k q part) (λ tree. cost_text k q tree)

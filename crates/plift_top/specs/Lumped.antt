@@ -1,9 +1,8 @@
 -- What `lumped` writes of a chain: the report of its quotient, and what the leaves of that report say of the chain itself.
-use Rattle.std.specs.Prelude.{◌≡◌, ⊤, None, ℕ, ◌-◌, ◌*◌, ◌^◌, ◌<◌, List, pos, ℤ, ◌+ℤ◌, ◌*ℤ◌, ◌≤ℤ◌, All, length}
-use Rattle.std.specs.declared.option.Option.{Option}
+use Rattle.std.specs.Prelude.{◌≡◌, ⊤, None, ℕ, ◌-◌, ◌*◌, ◌^◌, ◌<◌, pos, ℤ, ◌+ℤ◌, ◌*ℤ◌, ◌≤ℤ◌, length}
 use Rattle.lift_poly.specs.Polynomial.{Valuation}
 use Rattle.lift_grid.specs.Rectangle.{Spans, Inside}
-use Rattle.lift_grid.specs.Tree.{Tree, Leaf, RejectData, leaves}
+use Rattle.lift_grid.specs.Tree.{Tree, Leaf, RejectData}
 use Rattle.lift_grid.specs.Tree.Tree.{accept, reject}
 use Rattle.lift_model.specs.declared.kind.Kind.TheVariants.{Dtmc}
 use Rattle.lift_model.specs.Process.{power}
@@ -16,7 +15,8 @@ use Rattle.lift_rows.specs.Admitted.{HasWeightsFromZero, HasSumsOfTotal}
 use Rattle.lift_lump.specs.Quotient.{block, hold}
 use Rattle.lift_lump.specs.LumpedData.{LumpedData}
 use Rattle.lift_lump.specs.Lumped.{IsLumped}
-use Rattle.plift_top.specs.Reported.{IsReported, IsCutOff}
+use Rattle.cert_check.specs.Trust.{LeafHolds}
+use Rattle.plift_top.specs.Reported.{CaseQuestion, whole_question}
 
 -- the case of a chain's quotient: over the same root and grid, and at the same precision
 abbrev pub lumped_case : CaseData → LumpedData → CaseData
@@ -54,15 +54,6 @@ pub record IsLumpedCase (k : CaseData) (l : LumpedData) : Type 0 where
   pub lumped : IsLumped k.model l
   pub same : BlocksHold k.model l
 
--- The report of a chain's quotient was appended, whole. The leaves of its tree tile the root, and what each says holds everywhere inside its rectangle: of the quotient, and of the chain.
-pub record IsReportedLumped (old new : Option (List ℕ)) (bound : Bound) (k : CaseData) : Type 0 where
-  pub l : LumpedData
-  pub is : IsLumpedCase k l
-  pub reported : IsReported old new None bound (lumped_case k l)
-  pub schedulers : All (ChainLeafHolds k l bound) (leaves k.root 0 reported.tree)
-
--- A front of that report was appended.
-pub record IsCutOffLumped (old new : Option (List ℕ)) (bound : Bound) (k : CaseData) : Type 0 where
-  pub l : LumpedData
-  pub is : IsLumpedCase k l
-  pub cut_off : IsCutOff old new None bound (lumped_case k l)
+-- Asked of the quotient of a chain for a bound: as of any case, and what each leaf says holds of the quotient and of the chain.
+abbrev pub lumped_question : CaseData → LumpedData → Bound → CaseQuestion
+lumped_question k l bound = record (whole_question (lumped_case k l) None bound) { Holds = λ leaf. LeafHolds (lumped_case k l) bound leaf × ChainLeafHolds k l bound leaf }

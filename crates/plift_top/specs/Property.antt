@@ -1,19 +1,14 @@
 -- What `property` writes of a case: the text of its right tree for a comparison and a bound, and what the leaves of that tree say of until in the model that was read.
-use Rattle.std.specs.Prelude.{◌≡◌, ⊤, ℕ, Bool, List, [], ◌∷◌, ◌++◌, map, codes, All, Option, Some, None, IfSome}
+use Rattle.std.specs.Prelude.{◌≡◌, ⊤, ℕ, Bool, List, [], ◌∷◌, ◌++◌, codes, Option, Some, None, IfSome}
 use Rattle.std.specs.Fmt.{decimal}
 use Rattle.std.specs.List.{concat}
-use Rattle.std.specs.declared.option.Option.{Option}
-use Rattle.std.specs.Io.KnownBytes.{Appends}
 use Prim.Native.Char.{code}
-use Rattle.lift_base.specs.Outside.{AppendsFront}
 use Rattle.lift_poly.specs.Polynomial.{Valuation}
 use Rattle.lift_grid.specs.Rectangle.{Inside}
-use Rattle.lift_grid.specs.Tree.{Tiles}
 use Rattle.lift_model.specs.Model.{ModelData}
-use Rattle.corner_lift.specs.Case.{CaseData, IsCase}
+use Rattle.corner_lift.specs.Case.{CaseData}
 use Rattle.lift_walk.specs.Halved.{Halved}
 use Rattle.lift_cert.specs.declared.bound.Bound.{Bound}
-use Rattle.lift_rows.specs.Admitted.{HasWeightsFromZero, HasSumsOfTotal}
 use Rattle.cert_text.specs.Report.{line}
 use Rattle.property_text.specs.Grammar.{op_text}
 use Rattle.property_text.specs.declared.op.Op.{Op}
@@ -22,7 +17,8 @@ use Rattle.property_tree.specs.Leaves.{PropertyLeaf, Settles, IsRightFor}
 use Rattle.property_tree.specs.Text.{tree_text, IsTreeText}
 use Rattle.plift_top.specs.Asked.{AskedModel, safe_states}
 use Rattle.plift_top.specs.Heads.{head_of}
-use Rattle.plift_top.specs.Parts.{Part, parts}
+use Rattle.plift_top.specs.Parts.{Part}
+use Rattle.plift_top.specs.Reported.{CaseQuestion, halved_question}
 
 -- ---- the text
 
@@ -61,22 +57,8 @@ pub record HoldsFor (a : AskedModel) (k : CaseData) (op : Op) (bound : Bound) (p
   pub says : (v : Valuation) → Inside k.d part.spans v → SaysOfUntil a.read (safe_states a) k.w v part.leaf
   pub settles : IfSome part.leaf (Settles k op bound)
 
--- ---- what is written
+-- ---- what is asked
 
--- The text of a case for a property was appended, whole: that of its right tree. The tree's leaves tile the root, and what each says holds everywhere inside its rectangle. At each valuation inside the root each row of the case is a distribution.
-pub record IsReportedFor (old new : Option (List ℕ)) (op : Op) (bound : Bound) (a : AskedModel) (k : CaseData) : Type 0 where
-  pub tree : Halved PropertyLeaf
-  pub case : IsCase k
-  pub weights : HasWeightsFromZero k
-  pub sums : HasSumsOfTotal k
-  pub right : IsRightFor k op bound k.root 0 tree
-  pub tiles : Tiles k.d k.root (map (λ part. part.spans) (parts k.root tree))
-  pub schedulers : All (HoldsFor a k op bound) (parts k.root tree)
-  pub text : Appends old new (property_text k op bound tree)
-
--- A front of that text was appended: whichever tree is right, a front of its text.
-pub record IsCutOffFor (old new : Option (List ℕ)) (op : Op) (bound : Bound) (k : CaseData) : Type 0 where
-  pub case : IsCase k
-  pub weights : HasWeightsFromZero k
-  pub sums : HasSumsOfTotal k
-  pub front : (tree : Halved PropertyLeaf) → IsRightFor k op bound k.root 0 tree → AppendsFront old new (property_text k op bound tree)
+-- asked for a property of the model that was read
+abbrev pub property_question : AskedModel → CaseData → Op → Bound → CaseQuestion
+property_question a k op bound = halved_question k (λ tree. IsRightFor k op bound k.root 0 tree) (λ part. HoldsFor a k op bound part) (λ tree. property_text k op bound tree)

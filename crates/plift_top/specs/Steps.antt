@@ -16,6 +16,7 @@ use Rattle.plift_words.specs.Job.{VerifyData}
 use Rattle.plift_words.specs.Query.{is_cost}
 use Rattle.plift_words.specs.declared.query.Query.{Query}
 use Rattle.plift_top.specs.Asked.{AskedModel, cut, asked_model, verified_model}
+use Rattle.plift_top.specs.Reported.{CaseQuestion, IsReported, IsCutOff}
 use Rattle.plift_top.specs.Verify.{WasRead, IsTooWide, IsRefusedOver, IsAnswered, IsAnsweredInPart}
 use Rattle.plift_top.specs.declared.costed.CostedModel.{CostedModel}
 use Rattle.plift_top.specs.declared.refusal.Refusal.{Refusal}
@@ -69,10 +70,10 @@ abbrev pub AdmitsCase : VerifyData → ModelData → Region → Result CaseData 
 AdmitsCase job m r (Ok k) = (k ≡ case_of m r job.precision) × IsTestedCase k
 AdmitsCase job m r (Err why) = IsRefusedOver job m (Ok r) why
 
--- the answer to a case of a model was written, or a fault came and a front of it was
-abbrev pub WritesCase : {K : Type 0} → (K → Option (List ℕ)) → (K → ℕ) → Query → AskedModel → CaseData → K → K → Written → Type 0
-WritesCase taken counts asked a k out out' (Ok _) = IsAnswered (taken out) (taken out') asked a k
-WritesCase taken counts asked a k out out' (Err _) = IsAnsweredInPart (taken out) (taken out') asked a k × Rose (counts out) (counts out')
+-- the text of a case for what is asked was written, or a fault came and a front of it was
+abbrev pub WritesCase : {K : Type 0} → (K → Option (List ℕ)) → (K → ℕ) → CaseData → CaseQuestion → K → K → Written → Type 0
+WritesCase taken counts k q out out' (Ok _) = IsReported (taken out) (taken out') k q
+WritesCase taken counts k q out out' (Err _) = IsCutOff (taken out) (taken out') k q × Rose (counts out) (counts out')
 
 -- the answer to a case of a model was written, or there was no memory to begin, or its quotient is too wide, or a fault came and a front of it was
 abbrev pub AnswersCase : {K T : Type 0} → (K → Option (List ℕ)) → (K → ℕ) → Query → AskedModel → CaseData → K → K → Result T Refusal → Type 0

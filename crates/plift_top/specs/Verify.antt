@@ -11,17 +11,18 @@ use Rattle.lift_model.specs.declared.kind.Kind.TheVariants.{Mdp}
 use Rattle.corner_lift.specs.Case.{CaseData, IsAdmitted, case_of}
 use Rattle.lift_rows.specs.Fault.{IsFirstFault}
 use Rattle.lift_lump.specs.Lumped.{IsWide}
+use Rattle.lift_lump.specs.LumpedData.{LumpedData}
 use Rattle.drn_read.specs.declared.error.DrnError.{DrnError}
 use Rattle.cert_check.specs.Source.{file_limit}
 use Rattle.plift_words.specs.Job.{VerifyData}
 use Rattle.plift_words.specs.declared.query.Query.{Query}
 use Rattle.plift_words.specs.declared.query.Query.TheVariants as query
 use Rattle.plift_top.specs.Asked.{AskedModel, cut, asked_model, verified_model}
-use Rattle.plift_top.specs.Reported.{IsReported, IsCutOff}
-use Rattle.plift_top.specs.Bounded.{IsReportedWithin, IsCutOffWithin}
-use Rattle.plift_top.specs.Lumped.{IsReportedLumped, IsCutOffLumped}
-use Rattle.plift_top.specs.Property.{IsReportedFor, IsCutOffFor}
-use Rattle.plift_top.specs.Cost.{asked_cost, IsReportedPaid, IsCutOffPaid}
+use Rattle.plift_top.specs.Reported.{CaseQuestion, IsReported, IsCutOff, whole_question}
+use Rattle.plift_top.specs.Bounded.{within_question}
+use Rattle.plift_top.specs.Lumped.{IsLumpedCase, lumped_case, lumped_question}
+use Rattle.plift_top.specs.Property.{property_question}
+use Rattle.plift_top.specs.Cost.{asked_cost, cost_question}
 use Rattle.plift_top.specs.declared.refusal.Refusal.{Refusal}
 use Rattle.plift_top.specs.declared.refusal.Refusal.TheVariants as refusal
 
@@ -72,21 +73,21 @@ IsRefusedAt job (Ok m) why = IsRefusedOf (lacks_chain job.query m.kind) job m wh
 abbrev pub IsRefused : VerifyData → Refusal → List ℕ → Type 0
 IsRefused job why text = IsRefusedAt job (verified_model job text) why
 
--- The answer to a case of a model was appended, whole: its report for a bound on any number of steps, with a range of precisions where one is told, its text for a bound on as many as are told, the report of its quotient where it is lumped, and its text for a property, or for a budget.
-abbrev pub IsAnswered : Option (List ℕ) → Option (List ℕ) → Query → AskedModel → CaseData → Type 0
-IsAnswered old new (query.Whole bound from) a = IsReported old new from bound
-IsAnswered old new (query.Within bound h) a = IsReportedWithin old new bound h
-IsAnswered old new (query.Lumped bound) a = IsReportedLumped old new bound
-IsAnswered old new (query.Property bound op) a = IsReportedFor old new op bound a
-IsAnswered old new (query.Cost limits) a = IsReportedPaid old new (asked_cost limits a)
+-- What is asked of a case of a model is told so: for a bound on any number of steps, with a range of precisions where one is told, for a bound on as many as are told, of the quotient where the chain is lumped, for a property, or for a budget.
+abbrev pub IsToldOf : (CaseData → CaseQuestion → Type 0) → Query → AskedModel → CaseData → Type 0
+IsToldOf Told (query.Whole bound from) a k = Told k (whole_question k from bound)
+IsToldOf Told (query.Within bound h) a k = Told k (within_question k bound h)
+IsToldOf Told (query.Lumped bound) a k = (l : LumpedData) × IsLumpedCase k l × Told (lumped_case k l) (lumped_question k l bound)
+IsToldOf Told (query.Property bound op) a k = Told k (property_question a k op bound)
+IsToldOf Told (query.Cost limits) a k = Told k (cost_question k (asked_cost limits a))
 
--- A front of it was appended.
+-- the answer to a case of a model was appended, whole
+abbrev pub IsAnswered : Option (List ℕ) → Option (List ℕ) → Query → AskedModel → CaseData → Type 0
+IsAnswered old new asked a k = IsToldOf (IsReported old new) asked a k
+
+-- a front of it was appended
 abbrev pub IsAnsweredInPart : Option (List ℕ) → Option (List ℕ) → Query → AskedModel → CaseData → Type 0
-IsAnsweredInPart old new (query.Whole bound from) a = IsCutOff old new from bound
-IsAnsweredInPart old new (query.Within bound h) a = IsCutOffWithin old new bound h
-IsAnsweredInPart old new (query.Lumped bound) a = IsCutOffLumped old new bound
-IsAnsweredInPart old new (query.Property bound op) a = IsCutOffFor old new op bound
-IsAnsweredInPart old new (query.Cost limits) a = IsCutOffPaid old new (asked_cost limits a)
+IsAnsweredInPart old new asked a k = IsToldOf (IsCutOff old new) asked a k
 
 -- The text stands for a model, the job's region names a rectangle of its parameters, and P holds of it and of the case that the two make at the job's precision, after the cut.
 pub record Makes (P : AskedModel → CaseData → Type 0) (job : VerifyData) (text : List ℕ) : Type 0 where

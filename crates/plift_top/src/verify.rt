@@ -16,6 +16,10 @@ ghost use Rattle.plift_words.specs.Values.{most_steps};
 ghost use Rattle.plift_words.specs.Query.{is_cost};
 ghost use Rattle.plift_top.specs.RightReport.{IsRange};
 ghost use Rattle.cert_check.specs.Source.{file_limit};
+ghost use Rattle.plift_top.specs.Reported.{whole_question};
+ghost use Rattle.plift_top.specs.Bounded.{within_question};
+ghost use Rattle.plift_top.specs.Property.{property_question};
+ghost use Rattle.plift_top.specs.Cost.{asked_cost, cost_question};
 ghost use Rattle.plift_top.specs.Asked.{AskedModel, uncut, cut, safe_in, verified_model};
 ghost use Rattle.plift_top.specs.Verify.{Verifies, KeepsLimit, lacks_chain};
 ghost use Rattle.plift_top.specs.Steps.{IsTestedCase, IsTextFault, IsModelOf, HasCosts, ReadsModel, NamesRoot};
@@ -184,8 +188,8 @@ fn write_case<K: Sink>(
     requires links { AreLinks question.now.case.now.model question.now.links.now }
     requires from { IsRange question.now.case.now from }
     requires made { whole.IsMadeFor question.now.case.now question.now.links.now room.old }
-    ensures { WritesCase K.taken K.faults (Whole question.now.bound from) (uncut question.now.case.now.model)
-        question.now.case.now out.old out.new result }
+    ensures { let k = question.now.case.now in
+        WritesCase K.taken K.faults k (whole_question k from question.now.bound) out.old out.new result }
 {
     certificates_decide();
     rejecting_certificates_reach();
@@ -223,8 +227,8 @@ fn write_case_within<K: Sink>(
     requires case { IsTestedCase question.now.case.now }
     requires links { AreLinks question.now.case.now.model question.now.links.now }
     requires made { within.IsMadeFor question.now.case.now question.now.links.now room.old }
-    ensures { WritesCase K.taken K.faults (Within question.now.bound room.old.steps) (uncut question.now.case.now.model)
-        question.now.case.now out.old out.new result }
+    ensures { let k = question.now.case.now in
+        WritesCase K.taken K.faults k (within_question k question.now.bound room.old.steps) out.old out.new result }
 {
     certificates_by_steps_decide();
     rectangles_at_depths();
@@ -262,8 +266,8 @@ fn write_case_for<K: Sink>(
     requires links { AreLinks question.now.case.now.model question.now.links.now }
     requires made { property.IsMadeFor question.now.case.now question.now.links.now room.old }
     ensures { (a : AskedModel) → question.now.case.now.model ≡ cut a
-        → WritesCase K.taken K.faults (Property question.now.bound question.now.op) a question.now.case.now
-        out.old out.new result }
+        → WritesCase K.taken K.faults question.now.case.now
+        (property_question a question.now.case.now question.now.op question.now.bound) out.old out.new result }
 {
     until_is_bounded();
     until_is_reach();
@@ -307,8 +311,8 @@ fn write_case_paid<K: Sink>(
     requires can { CanAskCost question.now }
     requires made { cost.IsMadeFor question.now.case.now question.now.links.now room.old }
     ensures { (a : AskedModel) → question.now.case.now.model ≡ cut a → question.now.costs.now ≡ a.costs
-        → WritesCase K.taken K.faults (Cost (record { cap = question.now.cap; budget = question.now.budget }))
-        a question.now.case.now out.old out.new result }
+        → WritesCase K.taken K.faults question.now.case.now (cost_question question.now.case.now
+        (asked_cost (record { cap = question.now.cap; budget = question.now.budget }) a)) out.old out.new result }
 {
     question.costs.are_costs();
     cost_certificates_decide();
