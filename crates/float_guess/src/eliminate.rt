@@ -7,7 +7,7 @@ ghost use Rattle.lift_model.specs.Links.{AreLinks, HasChoice};
 ghost use Rattle.float_guess.specs.Part.{IsSameBeyond};
 
 use crate::floats::float_of;
-use crate::notes::Note;
+use crate::notes::{Note, note_at};
 use crate::part::{Part, first_weight};
 use crate::step::{Ahead, Outlook, Step};
 use std::num::{f64_from_bits_with_nan, f64_to_bits_with_nan};
@@ -54,13 +54,6 @@ enum Eliminated {
     All(u64),
     /// The row of the state at this position comes to more than one later state.
     Before(u32),
-}
-
-/// What is noted at a position.
-fn note_at(noted: &[u32], position: u32) -> Note {
-    Note {
-        bits: noted.get(position as usize).copied().unwrap_or(0),
-    }
 }
 
 impl Part<'_> {

@@ -124,6 +124,13 @@ impl Note {
     }
 }
 
+/// What is noted at a position.
+pub(crate) fn note_at(noted: &[u32], position: u32) -> Note {
+    Note {
+        bits: noted.get(position as usize).copied().unwrap_or(0),
+    }
+}
+
 /// Lets each state have its whole share.
 pub fn make_shares_whole(noted: &mut [u32])
     ensures { length noted.new ≡ length noted.old }

@@ -7,9 +7,10 @@ ghost use Rattle.lift_model.specs.Links.{AreLinks, HasChoice};
 ghost use Rattle.float_guess.specs.Part.{IsSameBeyond};
 
 use crate::floats::float_of;
-use crate::notes::Note;
+use crate::notes::{Note, note_at};
 use crate::part::{Part, first_weight};
 use crate::rule::Extreme;
+use crate::sweep::CORNERS;
 use std::num::nearest_i64_to_f64;
 
 /// How many states a part has that is eliminated so, at least and at most.
@@ -30,9 +31,6 @@ const ROUNDS: u32 = 128;
 const BETTER_OF_A_UNIT: f64 = 0.0009765625;
 
 const BETTER: f64 = 0.00000000000001;
-
-/// How many numbers of corners a mark tells apart.
-pub(crate) const CORNERS: u32 = 16;
 
 /// The mark of a state that is cut off, whichever choice and corner count.
 pub(crate) const CUT_OFF: u32 = (1 << 28) - 1;
@@ -67,9 +65,9 @@ struct Entry {
 
 /// What leaves the part, and what that is worth with what is added on the way.
 #[derive(Clone, Copy)]
-pub(crate) struct Leaving {
-    pub(crate) weight: f64,
-    pub(crate) gain: f64,
+struct Leaving {
+    weight: f64,
+    gain: f64,
 }
 
 /// The rows of the states that were put in, and the one that is being made. States are counted from the part's first.
@@ -87,19 +85,19 @@ struct Rows {
 
 impl Leaving {
     /// Nothing.
-    pub(crate) const NONE: Leaving = Leaving {
+    const NONE: Leaving = Leaving {
         weight: 0.0,
         gain: 0.0,
     };
 
     /// All of it, for what is worth the most.
-    pub(crate) const MOST: Leaving = Leaving {
+    const MOST: Leaving = Leaving {
         weight: 1.0,
         gain: 1.0,
     };
 
     /// With so much more.
-    pub(crate) fn with(self, weight: f64, gain: f64) -> Leaving {
+    fn with(self, weight: f64, gain: f64) -> Leaving {
         Leaving {
             weight: self.weight + weight,
             gain: self.gain + gain,
@@ -307,12 +305,17 @@ impl Part<'_> {
         if let Some(worth) = self.worth_of_single(lane, s, a) {
             return (0, worth);
         }
+        let corners = self.links.place(s, a).corners;
+        if corners <= 1 {
+            return (0, self.mean(lane, s, a, 0, reward));
+        }
         let slack = self.slack();
+        let means = self.means(lane, s, a);
         let mut best = corner;
-        let mut worth = self.mean(lane, s, a, corner, reward);
-        for other in 0..self.links.place(s, a).corners {
+        let mut worth = self.mean_by(&means, s, a, corner, reward);
+        for other in 0..corners {
             if other != corner {
-                let mean = self.mean(lane, s, a, other, reward);
+                let mean = self.mean_by(&means, s, a, other, reward);
                 if is_better(self.rule.corner, mean, worth, slack) {
                     best = other;
                     worth = mean;
@@ -453,9 +456,7 @@ impl Part<'_> {
     {
         rows.clear();
         for position in self.low..self.high {
-            let note = Note {
-                bits: noted.get(position as usize).copied().unwrap_or(0),
-            };
+            let note = note_at(noted, position);
             let leaving = self.lay_out_marked(lane, rows, position, note.position());
             let at = position.wrapping_sub(self.low);
             let extra = if is_moved { self.extra_by(note) } else { 0.0 };
@@ -519,6 +520,7 @@ impl Part<'_> {
     }
 
     /// The same, if the part has neither too few states nor too many.
+    #[inline(never)]
     pub(crate) fn eliminate_rows(&self, lane: &mut [i64], noted: &mut [u32]) -> bool
         requires links { AreLinks self.now.case.now.model self.now.links.now }
         requires size { length lane.old ≡ length self.now.case.now.model.states }

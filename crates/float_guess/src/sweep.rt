@@ -40,6 +40,54 @@ struct Sweeping {
     before: f64,
 }
 
+/// How many corners a row has at most.
+pub(crate) const CORNERS: u32 = 16;
+
+/// Weighted means of a row at each corner: what they are summed up from, and the weights of that.
+#[derive(Clone, Copy)]
+pub(crate) struct Means {
+    sums: [f64; CORNERS as usize],
+    rests: [f64; CORNERS as usize],
+}
+
+impl Means {
+    /// Those of no weight.
+    const NONE: Means = Means {
+        sums: [0.0; CORNERS as usize],
+        rests: [0.0; CORNERS as usize],
+    };
+
+    /// Adds a weight into what is worth so much, at a corner.
+    #[inline(always)]
+    fn add(&mut self, corner: u32, weight: f64, worth: f64) {
+        if let Some(sum) = self.sums.get_mut(corner as usize) {
+            *sum += weight * worth;
+        }
+        if let Some(rest) = self.rests.get_mut(corner as usize) {
+            *rest += weight;
+        }
+    }
+
+    /// The mean at a corner, where so much is added to its sum.
+    #[inline(always)]
+    fn mean(&self, corner: u32, added: f64) -> f64 {
+        let sum = self.sums.get(corner as usize).copied().unwrap_or(0.0) + added;
+        mean_of(sum, self.rests.get(corner as usize).copied().unwrap_or(0.0))
+    }
+}
+
+/// What a sum is worth over its weights. Where it has none, it is without end, if there is something to sum up.
+#[inline(always)]
+fn mean_of(sum: f64, rest: f64) -> f64 {
+    if rest > 0.0 {
+        sum / rest
+    } else if sum > 0.0 {
+        1.0
+    } else {
+        0.0
+    }
+}
+
 /// The relaxation that suits a rate at which steps of relaxed sweeps become less.
 fn suitable_relaxation(rate: f64, relaxation: f64) -> f64 {
     let plain = if relaxation <= 1.0 {
@@ -96,12 +144,43 @@ impl Part<'_> {
         if self.rewarded {
             sum += reward * self.whole(place, corner);
         }
-        if rest > 0.0 {
-            sum / rest
-        } else if sum > 0.0 {
-            1.0
+        mean_of(sum, rest)
+    }
+
+    /// What the weighted means of a row at all its corners are summed up from, without rewards: what a state is worth is
+    /// looked up once for all of them.
+    pub(crate) fn means(&self, lane: &[i64], s: u32, a: u32) -> Means
+        requires links { AreLinks self.now.case.now.model self.now.links.now }
+        requires row { HasChoice self.now.case.now.model s a }
+    {
+        let place = self.links.place(s, a);
+        let corners = place.corners.min(CORNERS);
+        let mut means = Means::NONE;
+        let mut first = first_weight(place, 0);
+        for target in self.links.targets(place) {
+            if *target != s {
+                let worth = self.worth(lane, *target);
+                let mut at = first;
+                for corner in 0..corners {
+                    let weight = float_of(self.weights.get(at).copied().unwrap_or(0));
+                    means.add(corner, weight, worth);
+                    at = at.wrapping_add(place.count as usize);
+                }
+            }
+            first = first.wrapping_add(1);
+        }
+        means
+    }
+
+    /// The weighted mean of a row at a corner, by those at all corners.
+    pub(crate) fn mean_by(&self, means: &Means, s: u32, a: u32, corner: u32, reward: f64) -> f64
+        requires links { AreLinks self.now.case.now.model self.now.links.now }
+        requires row { HasChoice self.now.case.now.model s a }
+    {
+        if self.rewarded {
+            means.mean(corner, reward * self.whole(self.links.place(s, a), corner))
         } else {
-            0.0
+            means.mean(corner, 0.0)
         }
     }
 
@@ -111,9 +190,13 @@ impl Part<'_> {
         requires row { HasChoice self.now.case.now.model s a }
     {
         let corners = self.links.place(s, a).corners;
-        let mut mean = self.mean(lane, s, a, 0, reward);
+        if corners <= 1 {
+            return self.mean(lane, s, a, 0, reward);
+        }
+        let means = self.means(lane, s, a);
+        let mut mean = self.mean_by(&means, s, a, 0, reward);
         for corner in 1..corners {
-            let other = self.mean(lane, s, a, corner, reward);
+            let other = self.mean_by(&means, s, a, corner, reward);
             mean = self.rule.corner.of(mean, other);
         }
         mean
