@@ -17,7 +17,7 @@ NAMED = [
     ("lower_cert/src/begin.rt", "FIRST_PASSES", "DECISIONS.md", "to {}), floats guess"),
     ("region_tree/src/recent.rt", "PLACES", "DECISIONS.md", "The last {} of each kind"),
     ("float_guess/src/krylov.rt", "STATES", "DECISIONS.md", "at most {} states and"),
-    ("float_guess/src/krylov.rt", "ENTRIES", "DECISIONS.md", "states and {} entries, 1 to"),
+    ("float_guess/src/krylov.rt", "ENTRIES", "DECISIONS.md", "states and {} entries that are kept, 0.4 MB"),
     ("float_guess/src/krylov.rt", "STATES", "PERFORMANCE.md", "has at most {} states and"),
     ("float_guess/src/krylov.rt", "ENTRIES", "PERFORMANCE.md", "states and {} transitions that count"),
     ("float_guess/src/visited.rt", "HELD_STATES", "PERFORMANCE.md", "a component of at most {} states one is held"),
