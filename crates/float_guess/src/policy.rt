@@ -119,12 +119,11 @@ impl Part<'_> {
         for target in self.links.targets(place) {
             let weight = float_of(self.weights.get(at).copied().unwrap_or(0));
             at = at.wrapping_add(1);
-            if *target == row.s {
-                continue;
-            }
-            all += weight;
-            if let Some(position) = self.position_of(*target) {
-                sum += weight * column.at(position.wrapping_sub(self.low));
+            if *target != row.s {
+                all += weight;
+                if let Some(position) = self.position_of(*target) {
+                    sum += weight * column.at(position.wrapping_sub(self.low));
+                }
             }
         }
         if all > 0.0 { sum / all } else { 0.0 }
