@@ -84,7 +84,7 @@ pub(crate) struct Search {
     lack: Column,
     first: Column,
     // the direction, and what it changes
-    method: Column,
+    direction: Column,
     change: Column,
     // what a second direction changes
     turn: Column,
@@ -251,7 +251,7 @@ impl Search {
             step: Column::NONE,
             lack: Column::NONE,
             first: Column::NONE,
-            method: Column::NONE,
+            direction: Column::NONE,
             change: Column::NONE,
             turn: Column::NONE,
         }
@@ -261,14 +261,14 @@ impl Search {
     fn begin(&mut self, states: u32) {
         self.step.clear(states);
         self.first.take(&self.lack, states);
-        self.method.take(&self.lack, states);
+        self.direction.take(&self.lack, states);
     }
 
     /// Takes a share of the direction, and tells what is lacking then in `lack`.
     fn go(&mut self, share: f64, states: u32) {
         for at in 0..states {
             self.step
-                .set(at, self.step.at(at) + share * self.method.at(at));
+                .set(at, self.step.at(at) + share * self.direction.at(at));
             self.lack
                 .set(at, self.lack.at(at) - share * self.change.at(at));
         }
@@ -284,10 +284,10 @@ impl Search {
     }
 
     /// Takes a new direction.
-    fn take_way(&mut self, share: f64, old: f64, states: u32) {
+    fn take_direction(&mut self, share: f64, old: f64, states: u32) {
         for at in 0..states {
-            let method = self.method.at(at) - old * self.change.at(at);
-            self.method.set(at, self.lack.at(at) + share * method);
+            let direction = self.direction.at(at) - old * self.change.at(at);
+            self.direction.set(at, self.lack.at(at) + share * direction);
         }
     }
 
@@ -351,7 +351,7 @@ impl Part<'_> {
         search.begin(states);
         let mut old = search.first.times(&search.lack, states);
         for _ in 0..if rows.is_wide { WIDE_STEPS } else { STEPS } {
-            self.change(noted, rows, &search.method, &mut search.change);
+            self.change(noted, rows, &search.direction, &mut search.change);
             let first = old / search.first.times(&search.change, states);
             search.go(first, states);
             self.change(noted, rows, &search.lack, &mut search.turn);
@@ -363,7 +363,7 @@ impl Part<'_> {
             if !(most > enough) || new == 0.0 {
                 break;
             }
-            search.take_way(new / old * (first / second), second, states);
+            search.take_direction(new / old * (first / second), second, states);
             old = new;
         }
     }

@@ -42,11 +42,6 @@ const GUESS_PASSES: u32 = 64;
 /// How many passes lower it first from one that isn't moved.
 const FEW_PASSES: u32 = 32;
 
-/// How many more do so where at most one state of so many is flagged then.
-const MORE_PASSES: u32 = 256;
-
-const FEW_FLAGS: u32 = 2;
-
 /// How many more passes there are for each state behind one that didn't fall whose share was made less.
 const SPREAD_PASSES: u32 = 8;
 
@@ -56,11 +51,13 @@ const GUESS_PATIENCE: u32 = 16384;
 /// How many passes are made before it is begun anew.
 const FIRST_PATIENCE: u32 = 16;
 
-/// How many passes for each state lower a part from a good guess before a state of it is held, and for how many states at
-/// least.
-const STATE_PASSES: u32 = 64;
+/// As many passes as a part has states lower it from a good guess before a state of it is held, and so many at least and at
+/// most. So they do from one that isn't moved where at most one state of so many is flagged.
+const FEWEST_ALONE: u32 = 16;
 
-const STATES: u32 = 16;
+const MOST_ALONE: u32 = 256;
+
+const FEW_FLAGS: u32 = 2;
 
 /// A state is held before the last guess where a part has so many at most.
 const HELD_SOON: u32 = 128;
@@ -171,6 +168,11 @@ fn has_few_flags(flags: &[u32], part: Part) -> bool {
         }
     }
     count <= part.len() / FEW_FLAGS
+}
+
+/// How many passes lower a part from a good guess before a state of it is held.
+fn passes_alone(part: Part) -> u32 {
+    part.len().max(FEWEST_ALONE).min(MOST_ALONE)
 }
 
 /// What came of a guess.
@@ -361,7 +363,7 @@ impl Descent<'_> {
         requires part { (part.high ≤ length flags.old) × (part.high ≤ length self.now.rows.now.links.order) }
         ensures { IsHigh self.now.rows.now.case spans lane.new }
     {
-        let few = STATE_PASSES.saturating_mul(part.len().max(STATES));
+        let few = passes_alone(part);
         if part.len() as usize <= HELD_STATES
             && (self.settle_within(lane, flags, part, few)
                 || self.lower_held(lane, flags, part, Patience::Long))
@@ -420,7 +422,9 @@ impl Descent<'_> {
             return true;
         }
         if self.rows.top() > FEW_NUMBERS {
-            if has_few_flags(flags, part) && self.settle_within(lane, flags, part, MORE_PASSES) {
+            if has_few_flags(flags, part)
+                && self.settle_within(lane, flags, part, passes_alone(part))
+            {
                 return true;
             }
             if self.lower_held(lane, flags, part, Patience::Quick) {

@@ -18,7 +18,7 @@ const PASSES: u32 = 65536;
 
 const VISITS: u32 = 1 << 23;
 
-/// A quick search takes so many passes for all numbers that were tried, and twice the square of how many these are.
+/// A quick search takes so many passes for all numbers that were tried, times the square of how many these are.
 const QUICK_PASSES: u32 = 2;
 
 /// How many passes lower the others beside a number, for a first time, before another state is held too, and how many do
@@ -172,8 +172,7 @@ impl Steering {
             Patience::Quick => self
                 .tries
                 .saturating_mul(self.tries)
-                .saturating_mul(2)
-                .saturating_add(QUICK_PASSES)
+                .saturating_mul(QUICK_PASSES)
                 .saturating_mul(self.states),
             Patience::Long => PASSES.saturating_mul(self.states).min(VISITS),
         }

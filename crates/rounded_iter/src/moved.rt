@@ -26,8 +26,10 @@ const LAST_FAR_TRY: u32 = 4;
 
 const FAR_FAULTS: u32 = 5;
 
-/// As many raise one that isn't moved further where at most one state of so many is flagged.
+/// One that isn't moved is raised further where at most one state of so many is flagged, in so many passes.
 const FEW_FLAGS: usize = 2;
+
+const NEARBY_RAISES: u32 = 16;
 
 /// How many passes raise a guess where states may be held instead, as in components of so many states.
 const HELD_RAISES: u32 = 1024;
@@ -189,7 +191,7 @@ impl Table<'_, '_> {
         if !has_few_flags(flags) {
             return self.rise_held(lane, flags, true);
         }
-        if let Some(found) = self.rise(lane, flags, Some(MORE_RAISES)) {
+        if let Some(found) = self.rise(lane, flags, Some(NEARBY_RAISES)) {
             return Some(found);
         }
         self.rise_held(lane, flags, true)

@@ -6,7 +6,7 @@ ghost use Rattle.std.specs.Prelude.{◌≡◌, ◌≤◌, ◌<◌, ◌-◌, IsTr
 /// How many visits there are at most while a state is held, for each state of a component.
 const VISITS: i64 = 8192;
 
-/// A quick search has so many passes for all numbers that were tried, and twice the square of how many were tried.
+/// A quick search has so many passes for all numbers that were tried, times the square of how many these are.
 const QUICK_PASSES: i64 = 2;
 
 /// By how much the first number that is tried differs, and by how many times each further one does, until one settles.
@@ -125,10 +125,11 @@ impl Steering {
             return 0;
         }
         self.tries = self.tries.saturating_add(1);
-        let passes = self.tries.saturating_mul(self.tries).saturating_mul(2);
-        let visits = passes
-            .saturating_add(QUICK_PASSES)
-            .saturating_mul(self.states);
+        let passes = self
+            .tries
+            .saturating_mul(self.tries)
+            .saturating_mul(QUICK_PASSES);
+        let visits = passes.saturating_mul(self.states);
         VISITS.saturating_mul(self.states).saturating_sub(visits)
     }
 }
