@@ -16,7 +16,7 @@ sys.dont_write_bytecode = True
 TOP = Path(__file__).resolve().parent.parent
 sys.path.insert(0, str(TOP / 'lab'))
 
-from plift_lab.cli import COMMANDS, parser  # noqa: E402
+from plift_lab import cli  # noqa: E402
 from plift_lab.version import VERSION  # noqa: E402
 
 FOLDERS, FILES = ('--keep',), ('--report',)
@@ -38,7 +38,7 @@ EXAMPLES = (
 
 def commands() -> Dict[str, argparse.ArgumentParser]:
     """The parser of each command."""
-    found = next(action for action in parser()._actions if isinstance(action, argparse._SubParsersAction))
+    found = next(action for action in cli.parser()._actions if isinstance(action, argparse._SubParsersAction))
     return dict(found.choices)
 
 
@@ -54,7 +54,7 @@ def places(words: argparse.ArgumentParser) -> List[argparse.Action]:
 
 def about(name: str) -> str:
     """A command in a line."""
-    return (COMMANDS[name].__doc__ or '').strip().splitlines()[0]
+    return cli.about(name).splitlines()[0]
 
 
 def told(action: argparse.Action) -> str:

@@ -4,26 +4,18 @@ from __future__ import annotations
 
 import argparse
 import sys
-from typing import List, Optional
+from importlib import import_module
+from types import ModuleType
+from typing import List, Optional, Sequence
 
 from .version import VERSION as __version__
-from .commands import bounds, explain, fit, leaves, picture, threshold, verdict, verify, view
 from .ends import Tool, say
 from .faults import INTERRUPTED, Fault, Refused
 from .plain import printable
 from .words import Words
 
-COMMANDS = {
-    'verify': verify,
-    'bounds': bounds,
-    'threshold': threshold,
-    'verdict': verdict,
-    'leaves': leaves,
-    'view': view,
-    'picture': picture,
-    'fit': fit,
-    'explain': explain,
-}
+COMMANDS = ('verify', 'bounds', 'threshold', 'verdict', 'leaves', 'view', 'picture', 'fit', 'explain')
+"""Each is a module of its own, which is read only where it is asked for."""
 ABOUT = """plift-lab asks plift for numbers, thresholds, leaves as data and pages to explore.
 
 Nothing in it is believed: each answer names the reports that stand behind it, and each of these was judged by
@@ -33,8 +25,17 @@ fault; 3 a text can't be fitted; 6 writing failed; 8 out of memory; 70 no plift 
 accepted, 20 rejected, 30 mixed, 40 unknown."""
 
 
-def parser() -> Words:
-    """All commands and their words."""
+def about(name: str) -> str:
+    """What a command does."""
+    return (_module(name).__doc__ or '').strip()
+
+
+def _module(name: str) -> ModuleType:
+    return import_module('.commands.' + name, __package__)
+
+
+def parser(names: Sequence[str] = COMMANDS) -> Words:
+    """These commands and their words."""
     words = Words(
         'plift-lab',
         description=ABOUT,
@@ -44,17 +45,18 @@ def parser() -> Words:
     )
     words.add_argument('--version', action='version', version='plift-lab ' + __version__)
     commands = words.add_subparsers(dest='command', metavar='COMMAND', parser_class=Words)
-    for name, module in COMMANDS.items():
-        about = (module.__doc__ or '').strip()
+    for name in names:
+        module = _module(name)
         command = commands.add_parser(
             name,
-            help=about.splitlines()[0],
-            description=about,
+            help=about(name).splitlines()[0],
+            description=about(name),
             epilog=STATUSES,
             formatter_class=argparse.RawDescriptionHelpFormatter,
             allow_abbrev=False,
         )
         module.add_words(command)
+        command.set_defaults(run=module.run)
     return words
 
 
@@ -67,10 +69,11 @@ def _run(words: Optional[List[str]]) -> int:
     words = sys.argv[1:] if words is None else words
     if len(words) == 2 and words[0] == '--help' and words[1] in COMMANDS:  # as `plift --help verify`
         words = words[::-1]
-    given = parser().parse_args(words)
+    is_named = bool(words) and words[0] in COMMANDS
+    given = parser(words[:1] if is_named else COMMANDS).parse_args(words)
     if not given.command:
         raise Fault('name a command: %s' % ', '.join(COMMANDS))
-    return int(COMMANDS[given.command].run(given))
+    return int(given.run(given))
 
 
 def _hint(fault: Fault) -> None:

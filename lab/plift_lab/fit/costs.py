@@ -22,10 +22,10 @@ class _Odd(Exception):
 
 def settle(source: Source, told: Told) -> None:
     """Reads all rewards, and writes them behind states where that costs the same."""
-    groups = list(_groups(source))
-    if not any(text.strip() for _, text in groups):
+    if all(text.isspace() or not text for text in {text for _, text in _groups(source)}):
         _clear(source)
         return
+    groups = list(_groups(source))
     _name(source, groups, told)
     costs = _read(source, groups, told)
     if not source.rewards:

@@ -5,7 +5,7 @@ from __future__ import annotations
 from fractions import Fraction
 from typing import Callable, Dict, List, Optional, Sequence, Tuple, Union
 
-from .polynomials import ONE, Monomial, Polynomial, common_multiple, total
+from .polynomials import ONE, Monomial, Polynomial, common_multiple, is_one, total
 from .refusal import Unfit, shown
 from .source import Choice, Source
 from .told import Told
@@ -80,12 +80,14 @@ def _rewrite(
 ) -> None:
     """Puts new values in the place of those of each row, where there are any; equal rows have the same."""
     known: Dict[Tuple[int, ...], Optional[List[int]]] = {}
+    polynomials = source.pool.polynomials
     for choice in source.choices:
         key = tuple(choice.values)
         if key not in known:
-            new = new_row(choice, [source.pool[value] for value in key])
+            new = new_row(choice, [polynomials[value] for value in key])
             known[key] = None if new is None else [source.pool.add(value) for value in new]
-        _replace(source, choice, known[key], told)
+        if known[key] is not None:
+            _replace(source, choice, known[key], told)
 
 
 def settle(source: Source, is_rounded: bool, told: Told) -> None:
@@ -93,7 +95,7 @@ def settle(source: Source, is_rounded: bool, told: Told) -> None:
 
     def summing(choice: Choice, values: List[Polynomial]) -> Optional[List[Polynomial]]:
         """A row that sums to one, in the place of one that doesn't."""
-        if total(values) == ONE:
+        if is_one(values):
             return None
         new = rounded_row(values) if is_rounded else None
         if new is None:
@@ -129,7 +131,7 @@ def _shorten(source: Source, is_coarse: bool, told: Told) -> None:
 
 def is_wide(value: Polynomial) -> bool:
     """Whether a value has numbers of 2^62 or more, over its least common denominator."""
-    return value.below >= MOST_SIZE or any(abs(each) >= MOST_SIZE for each in value.terms.values())
+    return value.below >= MOST_SIZE or value.size >= MOST_SIZE
 
 
 def _replace(source: Source, choice: Choice, new: Optional[List[int]], told: Told) -> None:

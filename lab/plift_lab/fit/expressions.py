@@ -15,7 +15,6 @@ NAME = rb'[A-Za-z_][A-Za-z0-9_]*'
 NAMED = re.compile(NAME)
 LITERAL = re.compile(rb'([0-9]*)\.?([0-9]*)(?:[eE]([+-]?[0-9]+))?')
 COMMENT = re.compile(rb'(?:^|\s)//.*|\s+$', re.S)
-DECIMAL = re.compile(rb'[0-9]+(?:\.[0-9]+)?')
 MOST_SYMBOLS, MOST_NESTED, MOST_DIGITS, MOST_SIZE, MOST_POWER = (65536, 64, 1000, 2**8192, 1024)
 """Limits far beyond what the program reads: a value within them may still become one that fits."""
 POWERS = [10**power for power in range(MOST_DIGITS + 1)]
@@ -47,11 +46,19 @@ def symbols_with(odd_names: Sequence[bytes] = ()) -> Pattern[bytes]:
     return re.compile(rb'\s*(?:(%s)|(%s)|(\$[A-Za-z0-9_]+)|(\*\*|[-+*/^()])|(\S))' % (NUMBER, names))
 
 
+def decimal(text: bytes) -> Optional[Tuple[int, int]]:
+    """What is above and below the line of digits, with a point between them or without; none of what is no such text."""
+    whole, point, behind = text.partition(b'.')
+    if whole.isdigit() and (behind.isdigit() or not point) and len(text) <= MOST_DIGITS:
+        return int(whole + behind), POWERS[len(behind)]
+    return None
+
+
 def literal(text: bytes) -> Tuple[int, int]:
     """The number that digits, a point and an exponent stand for: what is above and below the line."""
-    whole, _, behind = text.partition(b'.')
-    if whole.isdigit() and (behind.isdigit() or whole == text) and len(text) <= MOST_DIGITS:
-        return int(whole + behind), POWERS[len(behind)]
+    found = decimal(text)
+    if found:
+        return found
     parts = LITERAL.fullmatch(text)
     if not parts or not parts.group(1) + parts.group(2):
         raise ValueFault('Syntax', '`%s` is no number' % shown(text))
@@ -65,7 +72,8 @@ def literal(text: bytes) -> Tuple[int, int]:
 
 def read_value(text: bytes, numbers: Numbers, symbols: Pattern[bytes]) -> Any:
     """What a value is worth."""
-    return numbers.number(*literal(text)) if DECIMAL.fullmatch(text) else read_symbols(cut(text, symbols), numbers)
+    found = decimal(text)
+    return numbers.number(*found) if found else read_symbols(cut(text, symbols), numbers)
 
 
 def cut(text: bytes, symbols: Pattern[bytes]) -> Symbols:
@@ -190,20 +198,16 @@ class Polynomials:
 
     def __init__(self, name: Callable[[bytes], Polynomial]) -> None:
         self._products = self._work = 0
-        self.numbers = Numbers(self._number, name, self._times, self._over, self._kept, self._constant)
+        self.numbers = Numbers(Polynomial.ratio, name, self._times, self._over, self._kept, self._constant)
 
     def read(self, text: bytes, symbols: Pattern[bytes]) -> Polynomial:
         """A value."""
         self._products = 0
         value: Polynomial = read_value(text, self.numbers, symbols)
-        self._work += self._products + len(value.terms)
+        self._work += self._products + (1 if value.above else len(value.terms))
         if self._work > MOST_WORK:
             raise ValueFault('Long', 'all values together are too long when they are multiplied out')
         return value
-
-    @staticmethod
-    def _number(above: int, below: int) -> Polynomial:
-        return Polynomial.ratio(above, below)
 
     def _times(self, left: Polynomial, right: Polynomial) -> Polynomial:
         self._products += len(left.terms) * len(right.terms)
@@ -219,7 +223,7 @@ class Polynomials:
     def _kept(worth: Polynomial) -> Polynomial:
         if len(worth.terms) > MOST_TERMS:
             raise ValueFault('Long', 'a value is too long when it is multiplied out')
-        if worth.below >= MOST_SIZE or any(abs(value) >= MOST_SIZE for value in worth.terms.values()):
+        if worth.below >= MOST_SIZE or worth.size >= MOST_SIZE:
             raise ValueFault('Wide', 'a number of the value has too many digits')
         return worth
 

@@ -46,7 +46,7 @@ class Lines:
         for number, line in enumerate(io.BytesIO(data), 1):
             self.last = number
             line = line.strip()
-            if line.startswith(b'//'):
+            if line[:2] == b'//':
                 continue
             if len(line) > MOST_LINE:
                 raise Unfit(number, 'LongLine', 'a line has more than %d bytes' % MOST_LINE)
@@ -54,7 +54,16 @@ class Lines:
 
     def __iter__(self) -> Iterator[Line]:
         """The lines that weren't taken yet, also by who takes some of them meanwhile."""
-        return iter(self._next, None)
+        while True:
+            if self._ahead is not None:
+                line, self._ahead = self._ahead, None
+                yield line
+            for line in self._rest:
+                yield line
+                if self._ahead is not None:
+                    break
+            if self._ahead is None:
+                return
 
     def _next(self) -> Optional[Line]:
         if self._ahead is None:

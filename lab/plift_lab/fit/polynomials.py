@@ -5,7 +5,7 @@ from __future__ import annotations
 from fractions import Fraction
 from itertools import product
 from math import gcd
-from typing import Dict, Iterable, List, Mapping, Sequence, Set, Tuple, Union
+from typing import Dict, Iterable, List, Mapping, Optional, Sequence, Set, Tuple, Union
 
 Monomial = Tuple[Tuple[int, int], ...]
 """The parameters' numbers in order, each with a power above 0."""
@@ -16,9 +16,12 @@ UNIT = Fraction(0), Fraction(1)
 
 
 class Polynomial:
-    """A sum of monomials, each with a whole number other than 0, over one denominator, in lowest terms."""
+    """A sum of monomials, each with a whole number other than 0, over one denominator, in lowest terms.
 
-    __slots__ = ('terms', 'below', '_hash')
+    Most of a large model's are numbers, each with a text of its own: these are kept small.
+    """
+
+    __slots__ = ('above', 'below', '_terms', '_hash')
 
     def __init__(self, terms: Dict[Monomial, int], below: int = 1) -> None:
         if 0 in terms.values():
@@ -32,21 +35,19 @@ class Polynomial:
             else:
                 terms = {monomial: value // common for monomial, value in terms.items()}
                 below //= common
-        self.terms, self.below = terms, below
+        self.above: Optional[int] = terms.get((), 0) if len(terms) == (() in terms) else None
+        """Of a constant what is above the line."""
+        self.below = below
+        self._terms: Optional[Dict[Monomial, int]] = terms
         self._hash = 0
-
-    @classmethod
-    def _lowest(cls, terms: Dict[Monomial, int], below: int) -> 'Polynomial':
-        """What is in lowest terms already."""
-        new = cls.__new__(cls)
-        new.terms, new.below, new._hash = terms, below, 0
-        return new
 
     @classmethod
     def ratio(cls, above: int, below: int) -> 'Polynomial':
         """A constant, by what is above and below the line."""
         common = gcd(above, below)
-        return cls._lowest({(): above // common} if above else {}, below // common)
+        new = cls.__new__(cls)
+        new.above, new.below, new._terms, new._hash = above // common, below // common, None, 0
+        return new
 
     @classmethod
     def number(cls, value: Number) -> 'Polynomial':
@@ -67,17 +68,29 @@ class Polynomial:
         )
 
     @property
+    def terms(self) -> Dict[Monomial, int]:
+        """Each monomial with what is above the line."""
+        if self._terms is None:
+            self._terms = {(): self.above} if self.above else {}
+        return self._terms
+
+    @property
+    def size(self) -> int:
+        """The greatest of the numbers above the line, without its sign."""
+        return max(map(abs, self.terms.values())) if self.above is None else abs(self.above)
+
+    @property
     def coefficients(self) -> Dict[Monomial, Fraction]:
         """Each monomial with its coefficient."""
         return {monomial: Fraction(value, self.below) for monomial, value in self.terms.items()}
 
     @property
-    def key(self) -> Tuple[int, Tuple[Tuple[Monomial, int], ...]]:
+    def key(self) -> Tuple[int, Union[int, Tuple[Tuple[Monomial, int], ...]]]:
         """What two equal polynomials have in common."""
-        return self.below, tuple(sorted(self.terms.items()) if len(self.terms) > 1 else self.terms.items())
+        return self.below, tuple(sorted(self.terms.items())) if self.above is None else self.above
 
     def __eq__(self, other: object) -> bool:
-        return isinstance(other, Polynomial) and self.below == other.below and self.terms == other.terms
+        return isinstance(other, Polynomial) and self.key == other.key
 
     def __hash__(self) -> int:
         if not self._hash:
@@ -108,7 +121,7 @@ class Polynomial:
     @property
     def is_constant(self) -> bool:
         """Whether no parameter stands in it."""
-        return not self.terms or (len(self.terms) == 1 and () in self.terms)
+        return self.above is not None
 
     @property
     def constant(self) -> Fraction:
@@ -168,8 +181,8 @@ class Polynomial:
 
     def text(self, names: Sequence[str]) -> str:
         """As the program reads it, where no power is above 1."""
-        if len(self.terms) == 1 and () in self.terms:
-            return '%d/%d' % (self.terms[()], self.below) if self.below != 1 else str(self.terms[()])
+        if self.above is not None:
+            return '%d/%d' % (self.above, self.below) if self.below != 1 else str(self.above)
         told = ''
         for monomial, value in sorted(self.terms.items(), key=_order):
             common = gcd(value, self.below)
@@ -178,7 +191,7 @@ class Polynomial:
             if above != 1 or below != 1 or not factors:
                 factors.insert(0, '%d/%d' % (above, below) if below != 1 else str(above))
             told += ('-' if value < 0 else '+' if told else '') + '*'.join(factors)
-        return told or '0'
+        return told
 
 
 def _order(term: Tuple[Monomial, int]) -> Tuple[int, Monomial]:
@@ -205,6 +218,16 @@ def total(parts: Iterable[Polynomial]) -> Polynomial:
         for monomial, value in part.terms.items():
             terms[monomial] = terms.get(monomial, 0) + value * factor
     return Polynomial(terms, below)
+
+
+def is_one(parts: Sequence[Polynomial]) -> bool:
+    """Whether the sum is 1; quickly for numbers over one denominator."""
+    above, below = 0, parts[0].below if parts else 1
+    for part in parts:
+        if part.above is None or part.below != below:
+            return total(parts) == ONE
+        above += part.above
+    return above == below
 
 
 def _joined(left: Monomial, right: Monomial) -> Monomial:

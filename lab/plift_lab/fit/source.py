@@ -66,15 +66,19 @@ class Pool:
 
     def __init__(self) -> None:
         self.polynomials: List[Polynomial] = []
+        self.constants: Set[int] = set()
+        """Those in which no parameter stands."""
         self._by_key: Dict[Any, int] = {}
 
     def add(self, value: Polynomial) -> int:
         """Its number."""
-        key = value.key
-        if key not in self._by_key:
-            self._by_key[key] = len(self.polynomials)
+        next_one = len(self.polynomials)
+        number = self._by_key.setdefault(value.key, next_one)
+        if number == next_one:
             self.polynomials.append(value)
-        return self._by_key[key]
+            if value.above is not None:
+                self.constants.add(number)
+        return number
 
     def __getitem__(self, number: int) -> Polynomial:
         return self.polynomials[number]

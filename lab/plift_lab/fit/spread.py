@@ -53,26 +53,33 @@ class Spreader:
         self.is_relative = is_relative
         self.between = Between(len(source.states))
         self.lengths: Dict[int, Tuple[int, int]] = {}
-        """For each state the least and the greatest number of steps of its choices."""
+        """For each state with such choices the least and the greatest number of steps of its choices."""
         self._known: Dict[Tuple[int, ...], Optional[Spread]] = {}
 
     def run(self, told: Told) -> None:
         """Spreads all of them."""
         for place, state in enumerate(self.source.states):
             spreads = [self._spread(choice) for choice in state.choices]
-            self.lengths[place] = (
-                min(1 if spread is None else spread.least for spread in spreads),
-                max(1 if spread is None else spread.most for spread in spreads),
-            )
-            for choice, spread in zip(state.choices, spreads):
-                if spread is not None:
-                    self._apply(choice, spread)
-                    self._tell(choice, spread, told)
+            if any(spreads):
+                self._put(place, spreads, told)
             if len(self.source.states) + len(self.between.rows) > MOST_STATES:
                 about = 'with the steps in between there are more than %d states' % MOST_STATES
                 raise Unfit(state.line, 'LimitStates', about)
 
+    def _put(self, place: int, spreads: Sequence[Optional[Spread]], told: Told) -> None:
+        """Lets the choices of a state be what they become."""
+        self.lengths[place] = (
+            min(1 if spread is None else spread.least for spread in spreads),
+            max(1 if spread is None else spread.most for spread in spreads),
+        )
+        for choice, spread in zip(self.source.states[place].choices, spreads):
+            if spread is not None:
+                self._apply(choice, spread)
+                self._tell(choice, spread, told)
+
     def _spread(self, choice: Choice) -> Optional[Spread]:
+        if self.source.pool.constants.issuperset(choice.values):
+            return None
         key = tuple(choice.values)
         if key not in self._known:
             row = {place: self.source.pool[value] for place, value in enumerate(key)}
@@ -176,7 +183,7 @@ def _numbered(steps: Steps, pool: Pool) -> Spread:
 def steps_of_each(spreader: Spreader, goals: Sequence[bool]) -> Optional[int]:
     """How many steps each step has become; none where that differs."""
     moving = {
-        spreader.lengths[place]
+        spreader.lengths.get(place, (1, 1))
         for place, state in enumerate(spreader.source.states)
         if not goals[place] and any(set(choice.targets) != {place} for choice in state.choices)
     }

@@ -30,17 +30,26 @@ def number(source: Source, told: Told) -> None:
             'states are sorted, and numbered without gaps',
             'a number is a name, and transitions lead to the same states as before',
         )
-    places = {state.number: place for place, state in enumerate(states)}
     for place, state in enumerate(states):
         state.place = place
-        for choice in state.choices:
-            try:
-                choice.targets = [places[target] for target in choice.targets]
-            except KeyError as missing:
-                line = choice.line
-                raise Unfit(
-                    line, 'TargetRange', 'a transition leads to state %s, which isn\'t there' % missing
-                ) from None
+    if states[-1].place < states[-1].number or _last_target(source) > states[-1].number:
+        _lead_to_places(source)
+
+
+def _last_target(source: Source) -> int:
+    """The greatest number of a target."""
+    return max(map(max, filter(None, (choice.targets for choice in source.choices))), default=0)
+
+
+def _lead_to_places(source: Source) -> None:
+    """Writes places for the numbers of targets."""
+    places = {state.number: state.place for state in source.states}
+    for choice in source.choices:
+        try:
+            choice.targets = [places[target] for target in choice.targets]
+        except KeyError as missing:
+            about = 'a transition leads to state %s, which isn\'t there' % missing
+            raise Unfit(choice.line, 'TargetRange', about) from None
 
 
 def count(source: Source, wants: Wants, told: Told) -> None:
@@ -77,7 +86,7 @@ def check_choices(source: Source, wants: Wants, goal: Optional[Formula], told: T
         if source.kind == 'DTMC' and len(state.choices) > 1:
             about = 'state %d of a DTMC has more than one choice: is it an MDP?' % state.number
             raise Unfit(state.choices[1].line, 'ExtraChoice', about)
-        if any(choice.targets for choice in state.choices):
+        if _leads(state):
             continue
         is_goal = goal is not None and goal.holds(state.labels)
         if not (is_goal or wants.is_looped or source.is_timed):
@@ -89,10 +98,18 @@ def check_choices(source: Source, wants: Wants, goal: Optional[Formula], told: T
         told.change('states without transitions get a loop', why, 'state %d' % state.number)
 
 
+def _leads(state: State) -> bool:
+    """Whether some choice leads somewhere."""
+    for choice in state.choices:
+        if choice.targets:
+            return True
+    return False
+
+
 def join_targets(source: Source, told: Told) -> None:
     """Lets each choice lead to a state once, and nowhere with probability 0."""
     pool = source.pool
-    empty = {place for place, value in enumerate(pool.polynomials) if not value.terms}
+    empty = {place for place, value in enumerate(pool.polynomials) if value.above == 0}
     for choice in source.choices:
         is_joined = len(set(choice.targets)) < len(choice.targets)
         if is_joined:
@@ -101,9 +118,9 @@ def join_targets(source: Source, told: Told) -> None:
                 parts.setdefault(target, []).append(pool[value])
             choice.lead([(target, pool.add(total(values))) for target, values in parts.items()])
             told.change('transitions of a choice to the same state are joined', 'their values add up', choice.where)
-        if is_joined or not empty.isdisjoint(choice.values):
+        if is_joined or (empty and not empty.isdisjoint(choice.values)):
             entries = list(zip(choice.targets, choice.values))
-            kept = [(target, value) for target, value in entries if pool[value].terms]
+            kept = [(target, value) for target, value in entries if pool[value].above != 0]
             choice.lead(kept)
             if len(kept) < len(entries):
                 told.change('transitions of probability 0 are left out', 'they are never taken', choice.where)

@@ -50,8 +50,9 @@ class _Body:
         state: Optional[State] = None
         choice: Optional[Choice] = None
         for number, line in self.lines:
-            if b'0' <= line[:1] <= b'9':
-                choice = choice or self._new(state, Choice(number))
+            if line[:1].isdigit():
+                if choice is None:
+                    choice = self._new(state, Choice(number))
                 self._entry(number, line, choice)
             elif line.startswith(b'state'):
                 state, choice = self._state(number, line), None
@@ -78,10 +79,11 @@ class _Body:
         target, value = target.rstrip(), value.lstrip()
         if not (colon and target.isdigit() and len(target) <= MOST_DIGITS):
             raise Unfit(number, 'Syntax', '`%s` is no transition: write TARGET : VALUE' % shown(line))
-        if value not in self._values:
-            self._values[value] = self._value(number, value)
+        known = self._values.get(value)
+        if known is None:
+            known = self._values[value] = self._value(number, value)
         choice.targets.append(int(target))
-        choice.values.append(self._values[value])
+        choice.values.append(known)
         choice.texts.append(value)
         self._entries += 1
         if self._entries > MOST_ENTRIES:

@@ -3,14 +3,14 @@
 from __future__ import annotations
 
 import re
-from typing import Dict, List, Optional, Sequence, Set, Tuple
+from typing import Dict, Iterable, List, Optional, Sequence, Set, Tuple
 
 from ..models import between_line
 from ..plain import plain
 from .decimals import is_wide
 from .polynomials import common_multiple
 from .refusal import Unfit, shown
-from .source import Choice, Source
+from .source import Source
 from .spread import Entries
 from .told import Told
 
@@ -63,6 +63,18 @@ def kept_parameters(source: Source, names: Sequence[str], told: Told) -> List[in
 
 def check_numbers(source: Source, rows: Sequence[Tuple[int, Sequence[int]]]) -> None:
     """Refuses numbers with too many digits; of each row the line is told."""
+    polynomials = source.pool.polynomials
+    used = set().union(*(values for _, values in rows))
+    belows = {polynomials[value].below for value in used}
+    widest = max((polynomials[value].size for value in used), default=0)
+    below = common_multiple(belows)
+    if below < MOST_NUMBER and widest < MOST_NUMBER and widest * below < MOST_SCALED:
+        return
+    _find_wide(source, rows)
+
+
+def _find_wide(source: Source, rows: Sequence[Tuple[int, Sequence[int]]]) -> None:
+    """Refuses the first number with too many digits, if there is one."""
     lines: Dict[int, int] = {}
     for line, values in rows:
         for value in values:
@@ -81,10 +93,20 @@ def check_numbers(source: Source, rows: Sequence[Tuple[int, Sequence[int]]]) -> 
     for value, line in lines.items():
         polynomial = source.pool[value]
         factor = below // polynomial.below
-        if factor > MOST_SCALED // MOST_NUMBER and any(
-            abs(each) * factor >= MOST_SCALED for each in polynomial.terms.values()
-        ):
+        if polynomial.size * factor >= MOST_SCALED:
             raise Unfit(line, 'CommonDenominator', 'a coefficient over the least common denominator is 2^100 or more')
+
+
+class _Tails(Dict[int, str]):
+    """What stands behind the target of a transition, by the pool's number of its value."""
+
+    def __init__(self, source: Source, names: Sequence[str]) -> None:
+        super().__init__()
+        self.polynomials, self.names = source.pool.polynomials, names
+
+    def __missing__(self, value: int) -> str:
+        self[value] = tail = ' : ' + self.polynomials[value].text(self.names)
+        return tail
 
 
 class Writer:
@@ -94,7 +116,13 @@ class Writer:
         self.source, self.names, self.kept = source, names, kept
         self.renamed: Set[bytes] = set()
         """Labels and names with bytes that the program doesn't take."""
-        self._texts: Dict[int, str] = {}
+        self._targets: List[str] = []
+        """The numbers of all states, as texts."""
+        self._tails = _Tails(source, names)
+        self._words: Dict[Tuple[bytes, ...], str] = {}
+        """What stands behind a state's number, by its rewards and its labels."""
+        self._actions: Dict[Tuple[bytes, bytes], str] = {}
+        """Lines of actions, by names and rewards."""
 
     def text(self, between: Sequence[Entries], marked: Sequence[bytes], each: Optional[int]) -> bytes:
         """The whole text; steps in between carry some labels. Each step is so many; none where that differs."""
@@ -108,13 +136,14 @@ class Writer:
             raise Unfit(self.source.last_line, 'LimitTransitions', about)
         lines = ['// Fitted by plift-lab fit'] + [between_line(each)] * (each != 1)
         lines += self._head(len(states) + len(between), len(choices) + len(between))
+        self._targets = list(map(str, range(len(states) + len(between))))
         for place, state in enumerate(states):
             lines.append(self._state(place, state.group, state.labels, state.line))
-            is_named = len(state.choices) > 1 or any(choice.name or choice.group for choice in state.choices)
+            has_many = len(state.choices) > 1
             for choice in state.choices:
-                if is_named:
-                    lines.append(self._action(choice))
-                self._entries(list(zip(choice.targets, choice.values)), lines)
+                if has_many or choice.name or choice.group:
+                    lines.append(self._action(choice.name, choice.group))
+                self._entries(zip(choice.targets, choice.values), lines)
         for number, row in enumerate(between, len(states)):
             lines.append(self._state(number, b'', marked, 0))
             self._entries(row, lines)
@@ -138,23 +167,22 @@ class Writer:
         return safe if '"' in safe and ' ' not in safe else '"%s"' % safe
 
     def _state(self, place: int, group: bytes, labels: Sequence[bytes], line: int) -> str:
-        words = ['state %d' % place] + ['[%s]' % group.decode()] * bool(group)
-        told = ' '.join(words + [self.word(label) for label in labels])
+        key = (group, *labels)
+        if key not in self._words:
+            words = [''] + ['[%s]' % group.decode()] * bool(group)
+            self._words[key] = ' '.join(words + [self.word(label) for label in labels])
+        told = 'state %d%s' % (place, self._words[key])
         if len(told) > MOST_LINE:
             raise Unfit(line, 'LongLine', 'the labels of a state have more than %d bytes' % MOST_LINE)
         return told
 
-    def _action(self, choice: Choice) -> str:
-        words = (
-            ['action']
-            + [self.word(choice.name)] * bool(choice.name)
-            + ['[%s]' % choice.group.decode()] * bool(choice.group)
-        )
-        return ' '.join(words)
+    def _action(self, name: bytes, group: bytes) -> str:
+        key = name, group
+        if key not in self._actions:
+            words = ['action'] + [self.word(name)] * bool(name) + ['[%s]' % group.decode()] * bool(group)
+            self._actions[key] = ' '.join(words)
+        return self._actions[key]
 
-    def _entries(self, row: Sequence[Tuple[int, int]], lines: List[str]) -> None:
-        texts = self._texts
-        for target, value in row:
-            if value not in texts:
-                texts[value] = self.source.pool[value].text(self.names)
-            lines.append('%d : %s' % (target, texts[value]))
+    def _entries(self, row: Iterable[Tuple[int, int]], lines: List[str]) -> None:
+        targets, tails = self._targets, self._tails
+        lines += [targets[target] + tails[value] for target, value in row]
