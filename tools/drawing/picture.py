@@ -28,12 +28,11 @@ ACROSS, UPRIGHT = 0, 1
 NAME = ('<text x="400" y="42" text-anchor="middle">', '<text x="20" y="126">')
 ENDS = ('<text x="400" y="60" font-size="11" text-anchor="middle">', '<text x="20" y="144" font-size="11">')
 TICKS = (
-    '<path d="M140 0v6M270 0v6M400 0v6M530 0v6M660 0v6" stroke="#000"/>\n'
-    '<text x="20" y="42" font-size="11">ticks are rounded</text>\n<g font-size="12" text-anchor="middle">',
+    '<path d="M140 0v6M270 0v6M400 0v6M530 0v6M660 0v6" stroke="#000"/>\n<g font-size="12" text-anchor="middle">',
     '<path d="M140 156h-6M140 286h-6M140 416h-6M140 546h-6M140 676h-6" stroke="#000"/>\n'
-    '<text x="660" y="126" font-size="11" text-anchor="end">ticks are rounded</text>\n'
     '<g font-size="12" text-anchor="end">',
 )
+ROUNDED = '<text x="20" y="42" font-size="11">ticks are rounded</text>'
 
 
 def percent(share: Fraction) -> str:
@@ -189,6 +188,12 @@ def ticks(map_: Map, side: int, axis: int) -> List[str]:
     return [*lines, "</g>"]
 
 
+def note(map_: Map, slice_: Slice) -> List[str]:
+    """That ticks are rounded, once for both axes, where there are some."""
+    shown = (axis for axis in (slice_.x, slice_.y) if axis is not None)
+    return [ROUNDED] if any(places(*map_.interval(axis, map_.root[axis])) for axis in shown) else []
+
+
 def axis_lines(map_: Map, side: int, axis: Optional[int]) -> List[str]:
     """An axis' name, its exact ends and its ticks."""
     if axis is None:
@@ -218,5 +223,5 @@ def svg_text(map_: Map, slice_: Slice) -> str:
         *axis_lines(map_, UPRIGHT, slice_.y),
         *field(map_, slice_),
     ]
-    lines += [*axis_lines(map_, ACROSS, slice_.x), *cuts(map_, slice_), "</g>", "</svg>"]
+    lines += [*axis_lines(map_, ACROSS, slice_.x), *note(map_, slice_), *cuts(map_, slice_), "</g>", "</svg>"]
     return "".join(f"{line}\n" for line in lines)

@@ -1,10 +1,10 @@
 -- The axes of a picture: names, ends and ticks, and the values of the other parameters.
-use Rattle.std.specs.Prelude.{ℕ, ◌+◌, ◌*◌, ◌-◌, nat_le, max, List, [], ◌∷◌, ◌++◌, ℤ, pos, ◌+ℤ◌, ◌-ℤ◌, ◌*ℤ◌, unsigned_abs, codes, take, drop, length, slice_index_or, Option, Some, None, if◌then◌else◌}
+use Rattle.std.specs.Prelude.{ℕ, ◌+◌, ◌*◌, ◌-◌, nat_le, max, List, [], ◌∷◌, ◌++◌, ℤ, pos, ◌+ℤ◌, ◌-ℤ◌, ◌*ℤ◌, unsigned_abs, codes, take, drop, length, slice_index_or, Bool, false, ◌||◌, Option, Some, None, is_some, if◌then◌else◌}
 use Rattle.std.specs.Fmt.{decimal}
 use Rattle.cert_text.specs.Head.{HeadData}
 use Rattle.view_map.specs.Slice.{CutData, span_at}
 use Rattle.view_text.specs.Numbers.{fraction_text, decimal_text}
-use Rattle.view_text.specs.Style.{name_start, ends_start, ticks_start, tick_start, group_end, cut_start, text_end}
+use Rattle.view_text.specs.Style.{name_start, ends_start, ticks_start, tick_start, group_end, rounded_note, cut_start, text_end}
 use Rattle.view_text.specs.declared.axis.Axis.{Axis}
 use Rattle.view_text.specs.declared.decimal.Places.{Places}
 use Rattle.view_text.specs.declared.decimal.Places.TheVariants.{Three, Six, Nine}
@@ -73,6 +73,15 @@ span_text h axis parameter = let span = span_at h.asked.root parameter in
 abbrev pub axis_text : HeadData → Axis → Option ℕ → List ℕ
 axis_text h axis None = []
 axis_text h axis (Some parameter) = span_text h axis parameter
+
+-- whether there is one that has ticks
+abbrev pub has_ticks : HeadData → Option ℕ → Bool
+has_ticks h None = false
+has_ticks h (Some parameter) = is_some (places_of (span_at h.asked.root parameter) (unsigned_abs h.asked.d))
+
+-- that ticks are rounded, once for both axes
+abbrev pub note_text : HeadData → Option ℕ → Option ℕ → List ℕ
+note_text h x y = if has_ticks h x || has_ticks h y then rounded_note else []
 
 -- ---- the values of the other parameters
 

@@ -11,7 +11,7 @@ use Rattle.view_map.specs.Slice.{SliceData}
 use Rattle.view_map.specs.declared.part.LeafKind.TheVariants.{Accept, Reject, Unknown}
 use Rattle.view_text.specs.Numbers.{percent_text}
 use Rattle.view_text.specs.Field.{outlines}
-use Rattle.view_text.specs.Axes.{axis_text, cuts_from}
+use Rattle.view_text.specs.Axes.{axis_text, note_text, cuts_from}
 use Rattle.view_text.specs.Style.{each_kind, least_height, picture_start, size_end, desc_start, patterns_start, pattern_text, patterns_end, question_start, model_start, shares_start, text_end, legend_text, field_start, path_start, path_end, field_end, picture_end}
 use Rattle.view_text.specs.declared.axis.Axis.TheVariants.{Across, Upright}
 use Rattle.view_text.specs.declared.layer.Layer.{Layer}
@@ -94,7 +94,7 @@ top_text m s = start_text m s ++ (title_text m ++ (legend_text ++ axis_text m.he
 
 -- what stands below it
 abbrev pub bottom_text : HeadData → SliceData → List ℕ
-bottom_text h s = axis_text h Across s.x ++ (cuts_from h 0 s.cuts ++ picture_end)
+bottom_text h s = axis_text h Across s.x ++ (note_text h s.x s.y ++ (cuts_from h 0 s.cuts ++ picture_end))
 
 -- the picture
 abbrev pub svg_text : MapData → SliceData → List ℕ

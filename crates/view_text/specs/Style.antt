@@ -152,15 +152,19 @@ unfoldable pub ends_start : Axis → List ℕ
 ends_start Across = codes "</text>\n<text x=\"400\" y=\"60\" font-size=\"11\" text-anchor=\"middle\">"
 ends_start Upright = codes "</text>\n<text x=\"20\" y=\"144\" font-size=\"11\">"
 
--- before the numbers of the ticks: five marks at the field's side, and that the numbers are rounded
+-- before the numbers of the ticks: five marks at the field's side
 unfoldable pub ticks_start : Axis → List ℕ
-ticks_start Across = codes "<path d=\"M140 0v6M270 0v6M400 0v6M530 0v6M660 0v6\" stroke=\"#000\"/>\n<text x=\"20\" y=\"42\" font-size=\"11\">ticks are rounded</text>\n<g font-size=\"12\" text-anchor=\"middle\">\n"
-ticks_start Upright = codes "<path d=\"M140 156h-6M140 286h-6M140 416h-6M140 546h-6M140 676h-6\" stroke=\"#000\"/>\n<text x=\"660\" y=\"126\" font-size=\"11\" text-anchor=\"end\">ticks are rounded</text>\n<g font-size=\"12\" text-anchor=\"end\">\n"
+ticks_start Across = codes "<path d=\"M140 0v6M270 0v6M400 0v6M530 0v6M660 0v6\" stroke=\"#000\"/>\n<g font-size=\"12\" text-anchor=\"middle\">\n"
+ticks_start Upright = codes "<path d=\"M140 156h-6M140 286h-6M140 416h-6M140 546h-6M140 676h-6\" stroke=\"#000\"/>\n<g font-size=\"12\" text-anchor=\"end\">\n"
 
 -- before the number of a tick, so many quarters of the way from the low end to the high end
 unfoldable pub tick_start : Axis → ℕ → List ℕ
 tick_start Across n = concat (codes "<text x=\"" ∷ decimal (140 + 130 * n) ∷ codes "\" y=\"20\">" ∷ [])
 tick_start Upright n = concat (codes "<text x=\"130\" y=\"" ∷ decimal (680 - 130 * n) ∷ codes "\">" ∷ [])
+
+-- that the numbers of the ticks are rounded, left below the field
+abbrev pub rounded_note : List ℕ
+rounded_note = codes "<text x=\"20\" y=\"42\" font-size=\"11\">ticks are rounded</text>\n"
 
 -- before the value of a parameter, on that line below the axis
 unfoldable pub cut_start : ℕ → List ℕ

@@ -8,6 +8,7 @@ use crate::axis::Axis;
 use crate::field::write_field;
 use crate::legend::{write_legend, write_patterns};
 use crate::style::{DESC_START, PATTERNS_END, PATTERNS_START, PICTURE_END, write_size};
+use crate::ticks::write_note;
 use crate::title::{write_question, write_shares, write_title};
 use cert_text::Head;
 use lift_base::{Sink, Text, WriteFault, write_all, writes_in_turn};
@@ -51,6 +52,7 @@ fn write_bottom<K: Sink>(out: &mut K, head: &Head, slice: &Slice) -> Result<(), 
 {
     writes_in_turn::<K>();
     write_axis(out, head, Axis::Across, slice.x())?;
+    write_note(out, head, slice)?;
     write_cuts(out, head, slice)?;
     write_all(out, PICTURE_END)
 }

@@ -255,8 +255,7 @@ pub(crate) fn ends_start(axis: Axis) -> &'static [u8]
     }
 }
 
-/// What stands before the numbers of the ticks: five marks at the field's side, and that the numbers
-/// are rounded.
+/// What stands before the numbers of the ticks: five marks at the field's side.
 #[tactic(auto, unfolding(crate::specs::Style::ticks_start))]
 pub(crate) fn ticks_start(axis: Axis) -> &'static [u8]
     ensures { result.now ≡ ticks_start axis }
@@ -264,12 +263,10 @@ pub(crate) fn ticks_start(axis: Axis) -> &'static [u8]
     match axis {
         Axis::Across => {
             b"<path d=\"M140 0v6M270 0v6M400 0v6M530 0v6M660 0v6\" stroke=\"#000\"/>\n\
-            <text x=\"20\" y=\"42\" font-size=\"11\">ticks are rounded</text>\n\
             <g font-size=\"12\" text-anchor=\"middle\">\n"
         }
         Axis::Upright => {
             b"<path d=\"M140 156h-6M140 286h-6M140 416h-6M140 546h-6M140 676h-6\" stroke=\"#000\"/>\n\
-            <text x=\"660\" y=\"126\" font-size=\"11\" text-anchor=\"end\">ticks are rounded</text>\n\
             <g font-size=\"12\" text-anchor=\"end\">\n"
         }
     }
@@ -355,6 +352,10 @@ pub const SHARES_START: &[u8] = b"</text>\n<text x=\"20\" y=\"70\">";
 
 /// Before the boxes of the legend.
 pub const BOXES_START: &[u8] = b"<g stroke=\"#000\" stroke-width=\"1500\">\n";
+
+/// That the numbers of the ticks are rounded.
+pub const ROUNDED_NOTE: &[u8] =
+    b"<text x=\"20\" y=\"42\" font-size=\"11\">ticks are rounded</text>\n";
 
 /// Behind what belongs together.
 pub const GROUP_END: &[u8] = b"</g>\n";

@@ -1,13 +1,14 @@
 // The ticks of an axis.
-ghost use Rattle.std.specs.Prelude.{◌≡◌, ◌<◌, ◌≤◌, ◌*◌, ◌^◌, ◌*ℤ◌, pos, unsigned_abs};
+ghost use Rattle.std.specs.Prelude.{◌≡◌, ◌<◌, ◌≤◌, ◌*◌, ◌^◌, ◌*ℤ◌, ◌||◌, pos, unsigned_abs};
 ghost use Rattle.lift_base.specs.Outside.{Wrote};
-ghost use Rattle.view_text.specs.Axes.{all_ticks, places_of, quarters, tick_text, ticks_text};
+ghost use Rattle.view_text.specs.Axes.{all_ticks, has_ticks, note_text, places_of, quarters, tick_text, ticks_text};
 
 use crate::axis::Axis;
 use crate::decimal::{Places, write_decimal};
-use crate::style::{GROUP_END, TEXT_END, ticks_start, write_tick_start};
+use crate::style::{GROUP_END, ROUNDED_NOTE, TEXT_END, ticks_start, write_tick_start};
 use cert_text::Head;
 use lift_base::{Sink, WriteFault, write_all, writes_in_turn};
+use view_map::{Slice, span_at};
 
 /// From where to where an axis goes, over a grid.
 #[derive(Clone, Copy)]
@@ -122,4 +123,37 @@ pub(crate) fn write_ticks<K: Sink>(
     let _ = head.w();
     let d = head.grid().d.unsigned_abs();
     write_some_ticks(out, axis, Span { low, high, d })
+}
+
+// Whether there is an axis that has ticks.
+fn has_ticks(head: &Head, parameter: Option<u32>) -> bool
+    ensures { result ≡ has_ticks head.now parameter }
+{
+    match parameter {
+        None => false,
+        Some(parameter) => {
+            let (low, high) = span_at(head.root().sides(), parameter);
+            let d = head.grid().d.unsigned_abs();
+            places_of(Span { low, high, d }).is_some()
+        }
+    }
+}
+
+// Whether there are ticks on either axis.
+fn is_ticked(head: &Head, slice: &Slice) -> bool
+    ensures { result ≡ (has_ticks head.now slice.now.x || has_ticks head.now slice.now.y) }
+{
+    has_ticks(head, slice.x()) || has_ticks(head, slice.y())
+}
+
+/// Writes that ticks are rounded, once for both axes, where there are some.
+pub(crate) fn write_note<K: Sink>(out: &mut K, head: &Head, slice: &Slice) -> Result<(), WriteFault>
+    ensures { Wrote K.taken K.faults out.old out.new result
+        (note_text head.now slice.now.x slice.now.y) }
+{
+    if is_ticked(head, slice) {
+        write_all(out, ROUNDED_NOTE)
+    } else {
+        Ok(())
+    }
 }
