@@ -13,7 +13,7 @@ _plift_lab() {
     *:verdict:*) offered='--help --brief --look --keep --progress --quiet --json' files=yes ;;
     *:leaves:*) offered='--help --csv --json --unknown --decimals' files=yes ;;
     *:view:*) offered='--help --x --y --model --title' files=yes ;;
-    *:picture:*) offered='--help --x --y' files=yes ;;
+    *:picture:*) offered='--help --x --y --model' files=yes ;;
     *:fit:*) offered='--help --define --goal --safe --region --relative --round --loops --recount --drop --out --log' files=yes ;;
     *:explain:*) offered='--help' files=yes ;;
     esac

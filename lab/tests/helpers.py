@@ -4,10 +4,12 @@ from __future__ import annotations
 
 import contextlib
 import io
+import subprocess
 import tempfile
+import time
 import unittest
 from pathlib import Path
-from typing import Tuple
+from typing import Any, Callable, Tuple
 
 from plift_lab.cli import main
 
@@ -22,6 +24,22 @@ RANGE = COIN[: COIN.index(b'precision')].replace(b'plift 1', b'plift 2') + (
     b'precision 4\nfrom 1\ndepth 2\ngrid 40\nbox 4 36\nsplit 0\nat 1\naccept 1 2 0\nsplit 0\nunknown\n'
     b'at 4\nreject e 1 k 1 m 1 b 11/16\ny 11 16 0\nchoice 0 - -\nrank 1 0 -\n'
 )
+
+
+PATIENCE = 600
+"""Seconds: longer than anything here takes on a busy machine, and less than a stand-in sleeps."""
+
+
+def wait_for(is_there: Callable[[], Any], process: 'subprocess.Popen[bytes]') -> None:
+    """Waits until a process has made something, however slow the machine is."""
+    end = time.monotonic() + PATIENCE
+    while not is_there():
+        if process.poll() is not None:
+            raise AssertionError('it ended with %s before' % process.returncode)
+        if time.monotonic() > end:
+            process.kill()
+            raise AssertionError('nothing came')
+        time.sleep(0.02)
 
 
 def run(*words: str) -> Tuple[int, str, str]:

@@ -9,7 +9,6 @@ import shutil
 import signal
 import subprocess
 import sys
-import time
 import unittest
 from fractions import Fraction
 from pathlib import Path
@@ -21,7 +20,7 @@ from plift_lab.faults import Fault
 from plift_lab.outputs import write_file
 from plift_lab.program import find_program
 
-from .helpers import EXAMPLES, LINKS, RANGE, RETRY, TOP, TREE, InFolder, run
+from .helpers import EXAMPLES, LINKS, PATIENCE, RANGE, RETRY, TOP, TREE, InFolder, run, wait_for
 
 REGION = 'p=1/10..1/2,q=1/10..1/2'
 THIRD = b'@type: DTMC\n@model\nstate 0 init\n1 : 1/3\n2 : 2/3\nstate 1 a\n1 : 1\nstate 2\n2 : 1\n'
@@ -427,7 +426,7 @@ class Mistakes(InFolder):
 class Interrupted(InFolder):
     def test_ends_cleanly(self) -> None:
         """A long job is interrupted: no trace, no process, no half report, and the folder can be used again."""
-        slow = self.file('slow', b'#!/bin/sh\necho plift 1\nexec sleep 60\n')
+        slow = self.file('slow', b'#!/bin/sh\necho plift 1\nexec sleep 1000\n')
         os.chmod(slow, 0o755)
         keep = self.folder / 'kept'
         for number in (signal.SIGINT, signal.SIGTERM):
@@ -437,12 +436,9 @@ class Interrupted(InFolder):
                 stdout=subprocess.PIPE,
                 stderr=subprocess.PIPE,
             )
-            for _ in range(200):
-                if list(keep.glob('*.part')):
-                    break
-                time.sleep(0.05)
+            wait_for(lambda: list(keep.glob('*.part')), process)
             process.send_signal(number)
-            out, err = process.communicate(timeout=20)
+            out, err = process.communicate(timeout=PATIENCE)
             self.assertEqual((process.returncode, out), (130, b''))
             self.assertNotIn(b'Traceback', err)
             self.assertEqual(list(keep.glob('*.part')) + list(keep.glob('*.report')), [])
@@ -461,7 +457,7 @@ class Interrupted(InFolder):
         self.assertEqual(run(*words)[0], 0)
         slow = self.file(
             'slow',
-            b'#!/bin/sh\ncase "$*" in\n*"--bound 1 "*) ;;\n*verify*) exec sleep 60 ;;\nesac\n'
+            b'#!/bin/sh\ncase "$*" in\n*"--bound 1 "*) ;;\n*verify*) exec sleep 1000 ;;\nesac\n'
             b'exec "%s" "$@"\n' % str(find_program().path).encode(),
         )
         os.chmod(slow, 0o755)
@@ -471,12 +467,9 @@ class Interrupted(InFolder):
             stdout=subprocess.PIPE,
             stderr=subprocess.PIPE,
         )
-        for _ in range(400):
-            if list(keep.glob('part-of-*')):
-                break
-            time.sleep(0.05)
+        wait_for(lambda: list(keep.glob('part-of-*')), process)
         process.terminate()
-        out, err = process.communicate(timeout=20)
+        out, err = process.communicate(timeout=PATIENCE)
         self.assertEqual((process.returncode, out, err.count(b'Traceback')), (130, b'', 0))
         self.assertEqual([path.name for path in keep.glob('*.part')], [])
         self.assertEqual([path.name for path in keep.glob('*.report')], ['1.report'])

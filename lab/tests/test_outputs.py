@@ -10,18 +10,16 @@ import stat
 import subprocess
 import sys
 import threading
-import time
 import unittest
 from pathlib import Path
 from typing import Any, List
-from unittest import mock
 
 from plift_lab.evidence import digest
 from plift_lab.outputs import Output
 from plift_lab.plain import listed, plain, printable
 from plift_lab.program import find_program
 
-from .helpers import EXAMPLES, RETRY, TOP, TREE, InFolder, run
+from .helpers import EXAMPLES, PATIENCE, RETRY, TOP, TREE, InFolder, run, wait_for
 
 REGION = 'p=1/10..1/2,q=1/10..1/2'
 QUESTION = ('--goal', 'lost', '--region', REGION)
@@ -36,7 +34,7 @@ class Called(InFolder):
         """What a line of the shell comes to, in which LAB is the command."""
         known = dict(os.environ, PLIFT_PROGRAM=str(find_program().path), LAB='%s %s' % (sys.executable, MAIN))
         how = dict({'env': known, 'cwd': str(self.folder), 'stdout': subprocess.PIPE, 'stderr': subprocess.PIPE}, **how)
-        return subprocess.run(['bash', '-c', line.replace('LAB', '$LAB')], timeout=60, **how)
+        return subprocess.run(['bash', '-c', line.replace('LAB', '$LAB')], timeout=PATIENCE, **how)
 
     def verify(self, report: str, model: str = RETRY) -> 'subprocess.CompletedProcess[bytes]':
         """The question of examples/retry-tree.report, whose report goes there."""
@@ -236,7 +234,7 @@ class Shown(InFolder):
 class Ends(Called):
     def test_signals(self) -> None:
         """The program ends with its caller, and no half report is left."""
-        slow = self.file('slow', b'#!/bin/sh\necho plift 1\necho $$ > started\nexec sleep 60\n')
+        slow = self.file('slow', b'#!/bin/sh\necho plift 1\necho $$ > started\nexec sleep 1000\n')
         os.chmod(slow, 0o755)
         words = [sys.executable, MAIN, 'verify', RETRY, *QUESTION, *BOUND, '--keep', 'k']
         started = self.folder / 'started'
@@ -248,13 +246,10 @@ class Ends(Called):
                 stdout=subprocess.PIPE,
                 stderr=subprocess.PIPE,
             )
-            for _ in range(400):
-                if started.exists() and started.read_text().endswith('\n'):
-                    break
-                time.sleep(0.05)
+            wait_for(lambda: started.exists() and started.read_text().endswith('\n'), process)
             child = int(started.read_text())
             process.send_signal(number)
-            out, err = process.communicate(timeout=20)
+            out, err = process.communicate(timeout=PATIENCE)
             gone = self.is_gone(child)
             self.assertEqual((process.returncode, out, gone), (130, b'', True), (number, err))
             self.assertIn(b'interrupted', err)
@@ -266,24 +261,20 @@ class Ends(Called):
         slow = self.file(
             'slow',
             b'#!/bin/sh\nif [ "$1" = verify ]; then\n    echo >> asked\n'
-            b'    if [ "$(wc -l < asked)" -gt 2 ]; then echo > sleeps; exec sleep 60; fi\nfi\nexec "%s" "$@"\n'
+            b'    if [ "$(wc -l < asked)" -gt 2 ]; then echo > sleeps; exec sleep 1000; fi\nfi\nexec "%s" "$@"\n'
             % str(find_program().path).encode(),
         )
         os.chmod(slow, 0o755)
-        words = [sys.executable, MAIN, 'threshold', RETRY, *QUESTION, '--bound', '1/40', '--parameter', 'p', '--keep', 'k']
         process = subprocess.Popen(
-            words,
+            [sys.executable, MAIN, 'threshold', RETRY, *QUESTION, '--bound', '1/40', '--parameter', 'p', '--keep', 'k'],
             env=dict(os.environ, PLIFT_PROGRAM=slow),
             cwd=str(self.folder),
             stdout=subprocess.PIPE,
             stderr=subprocess.PIPE,
         )
-        for _ in range(1200):
-            if (self.folder / 'sleeps').exists():
-                break
-            time.sleep(0.05)
+        wait_for((self.folder / 'sleeps').exists, process)
         process.send_signal(signal.SIGINT)
-        out, err = process.communicate(timeout=20)
+        out, err = process.communicate(timeout=PATIENCE)
         self.assertEqual((process.returncode, out), (130, b''))
         self.assertRegex(err.decode(), r'plift-lab: so far: p between 0\.\d+ and 0\.\d+; interrupted')
 

@@ -32,6 +32,13 @@ class Pages(InFolder):
         self.assertIn('<title>P( reach goal ) &lt;= 1/40</title>', page)
         self.assertEqual(data['choosing'], [[state, '', ['0', '1']] for state in (0, 1, 2)])
 
+    def test_a_picture_names_the_label(self) -> None:
+        for words, label in (((TREE, '--model', RETRY), 'lost'), ((TREE,), 'goal')):
+            status, picture, fault = run('picture', *words)
+            self.assertEqual((status, fault), (0, ''))
+            self.assertIn('<title>mixed: P( reach %s ) &lt;= 1/40' % label, picture)
+            self.assertIn('font-weight="bold">P( reach %s ) &lt;= 1/40</text>' % label, picture)
+
     def test_another_model(self) -> None:
         for name in ('links.drn', 'twin.drn', 'coin.drn', 'retry-tree.report'):
             status, out, fault = run('view', TREE, '--model', str(EXAMPLES / name))

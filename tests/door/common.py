@@ -6,19 +6,22 @@ import shutil
 import subprocess
 import sys
 import tempfile
+import time
 import unittest
 from pathlib import Path
 from types import ModuleType
-from typing import Any, Dict, List, Mapping, Optional, Sequence, Tuple, Union
+from typing import Any, Dict, Iterator, List, Mapping, Optional, Sequence, Tuple, Union
 
 sys.dont_write_bytecode = True
 TOP = Path(__file__).resolve().parents[2]
+# Seconds: longer than anything here takes on a busy machine, and less than a stand-in sleeps.
+PATIENCE = 600
 # Tells its words, and then does what the environment says.
 STAND_IN = """#!/bin/sh
 for word; do printf '<%s>' "$word"; done
 printf '\\n'
 [ -z "${COPY-}" ] || cat
-[ -z "${SLEEP-}" ] || { echo $$ >"$SLEEP"; exec sleep 60; }
+[ -z "${SLEEP-}" ] || { echo $$ >"$SLEEP"; exec sleep 1000; }
 [ -z "${NOTE-}" ] || printf '%s\\n' "$NOTE" >&2
 [ -z "${DIE-}" ] || kill -s "$DIE" $$
 exit "${STATUS-0}"
@@ -32,7 +35,7 @@ case " ${SLOW_CRATES-} " in
     mkdir -p out/incremental
     echo part >out/incremental/part
     echo "slow $crate $$" >>"$CALLS"
-    sleep 60
+    sleep 1000
     ;;
 esac
 case " ${BROKEN_CRATES-} " in
@@ -49,6 +52,14 @@ echo "end $crate" >>"$CALLS"
 """
 
 COMMANDS = ["verify", "bounded", "property", "cost", "lumped", "check", "migrate", "refine", "generate", "selftest"]
+
+
+def waits(each: float = 0.02) -> Iterator[None]:
+    """Waits again and again for what has to come, as long as that may take."""
+    end = time.monotonic() + PATIENCE
+    while time.monotonic() < end:
+        yield
+        time.sleep(each)
 
 
 def tool(name: str) -> ModuleType:

@@ -9,7 +9,7 @@ import unittest
 from pathlib import Path
 from typing import List, Tuple
 
-from common import DoorCase, tool
+from common import PATIENCE, DoorCase, tool, waits
 
 build = tool("build")
 
@@ -70,16 +70,15 @@ class Builds(DoorCase):
         return subprocess.Popen(words, env={**self.environment, **environment}, stderr=subprocess.PIPE, text=True)
 
     def end(self, started: "subprocess.Popen[str]") -> Tuple[int, str]:
-        told = started.communicate(timeout=60)[1]
+        told = started.communicate(timeout=PATIENCE)[1]
         return started.returncode, told
 
     def wait_for(self, front: str) -> List[str]:
         """Waits for a line of the fake `rt`, and returns its words."""
-        for _ in range(1500):
+        for _ in waits():
             found = [line.split() for line in self.lines() if line.startswith(front)]
             if found:
                 return found[0]
-            time.sleep(0.02)
         self.fail(f"no {front} in {self.lines()}")
 
     def out(self, crate: str) -> Path:
@@ -136,10 +135,9 @@ class Builds(DoorCase):
         slow = int(self.wait_for("slow")[2])
         started.send_signal(number)
         status, told = self.end(started)
-        for _ in range(1500):
+        for _ in waits():
             if not os.path.exists(f"/proc/{slow}"):
                 break
-            time.sleep(0.02)
         self.assertFalse(os.path.exists(f"/proc/{slow}"), "the fake rt runs on")
         return status, told
 

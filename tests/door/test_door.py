@@ -5,11 +5,10 @@ import pty
 import shutil
 import signal
 import subprocess
-import time
 import unittest
 from typing import Dict, List
 
-from common import COMMANDS, DoorCase
+from common import COMMANDS, PATIENCE, DoorCase, waits
 
 WORDS = ["verify", "", " two  blanks ", "it's \"quoted\"", "a\nline\n", "*", "$HOME", "--goal=-", "\\"]
 SHELLS: List[List[str]] = [[], ["bash"], ["bash", "--posix"]]
@@ -170,12 +169,13 @@ class Runs(Door):
                         stderr=subprocess.PIPE,
                         env={**self.environment, **environment, "SLEEP": str(slept)},
                     )
-                    while not (slept.exists() and slept.read_text()):
-                        time.sleep(0.01)
+                    for _ in waits():
+                        if started.poll() is not None or (slept.exists() and slept.read_text().endswith("\n")):
+                            break
                     program = int(slept.read_text())
                     started.send_signal(number)
                     assert started.stderr
-                    ended = started.wait(timeout=30), started.stderr.read()
+                    ended = started.wait(timeout=PATIENCE), started.stderr.read()
                     # Bash passes QUIT over, and tells it by its status.
                     told = 131 if shell and environment and number == signal.SIGQUIT else -number
                     self.assertEqual(ended, (told, b""), (shell, environment))
@@ -201,7 +201,7 @@ class Runs(Door):
         )
         os.close(follower)
         os.write(leader, b"\x04")
-        self.assertEqual(ran.wait(timeout=30), 3)
+        self.assertEqual(ran.wait(timeout=PATIENCE), 3)
         told = os.read(leader, 10000).decode().splitlines()
         os.close(leader)
         self.assertIn("plift: reading the model from standard input; give a file by < model.drn", told[0] + told[1])

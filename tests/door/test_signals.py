@@ -6,12 +6,11 @@ from __future__ import annotations
 import shutil
 import signal
 import subprocess
-import time
 import unittest
 from pathlib import Path
 from typing import Dict, List, Mapping, Tuple
 
-from common import TOP, DoorCase, write_program
+from common import PATIENCE, TOP, DoorCase, waits, write_program
 
 ENDING = (signal.SIGTERM, signal.SIGINT, signal.SIGHUP, signal.SIGQUIT, signal.SIGPIPE)
 # Compiles for a minute, by a process of its own. It tells both in the file $CALLS.
@@ -19,7 +18,7 @@ FAKE_CARGO = """#!/bin/sh
 case $1 in
 --version) echo "$(basename "$0") 1.80.0" ;;
 build)
-    sleep 60 &
+    sleep 1000 &
     echo "$$ $!" >"$CALLS"
     wait
     ;;
@@ -45,25 +44,23 @@ class Signals(DoorCase):
 
     def numbers(self) -> List[int]:
         """The processes that were started, once they are."""
-        for _ in range(3000):
+        for _ in waits():
             for line in self.lines():
                 words = line.split()
                 if words and (words[0] == "slow" or words[0].isdigit()):
                     return [int(word) for word in words if word.isdigit()]
-            time.sleep(0.01)
         self.fail("nothing was started")
 
     def check_ends(self, started: "subprocess.Popen[bytes]", number: int) -> str:
         """Ends it by the signal: so it ends, and so do those. Returns what was told."""
         below = self.numbers()
         started.send_signal(number)
-        told = started.communicate(timeout=30)[1].decode()
+        told = started.communicate(timeout=PATIENCE)[1].decode()
         self.assertEqual(started.returncode, -number, told)
         self.assertNotIn("Traceback", told)
-        for _ in range(500):
+        for _ in waits():
             if not any(is_running(each) for each in below):
                 return told
-            time.sleep(0.01)
         self.fail(f"{[each for each in below if is_running(each)]} run on")
 
     def test_program_with_hints(self) -> None:
@@ -108,14 +105,17 @@ class Signals(DoorCase):
         """Where it is ended while it copies, nothing of it stays."""
         self.built()
         self.built("plift_view")
-        copy = shutil.which("cp")
-        write_program(self.room / "bin/cp", f'#!/bin/sh\necho $$ >"$CALLS"\nsleep 0.3\nexec {copy} "$@"\n')
+        copy, go_on = shutil.which("cp"), self.room / "go on"
+        waiting = f"until [ -e '{go_on}' ]; do sleep 0.05; done"
+        write_program(self.room / "bin/cp", f'#!/bin/sh\necho $$ >"$CALLS"\n{waiting}\nexec {copy} "$@"\n')
         for number in ENDING:
             with self.subTest(number):
                 started = self.start(str(self.top / "install"), str(self.room / "a/new/prefix"))
                 self.numbers()
                 started.send_signal(number)
-                self.assertEqual(started.communicate(timeout=30)[1], b"")
+                go_on.touch()
+                self.assertEqual(started.communicate(timeout=PATIENCE)[1], b"")
+                go_on.unlink()
                 self.assertEqual(started.returncode, 128 + number)
                 self.assertFalse((self.room / "a").exists())
 

@@ -8,18 +8,17 @@ import shutil
 import signal
 import subprocess
 import sys
-import time
 import unittest
 from typing import Tuple
 
-from common import DoorCase, TOP, write_program
+from common import PATIENCE, TOP, DoorCase, write_program
 
 TREE = TOP / "examples/retry-tree.report"
-# Writes three of six leaves, waits, and writes the others.
+# Writes three of six leaves, waits until it is told to go on, if at all, and writes the others.
 GROWING = f"""#!/bin/sh
 head -n 42 '{TREE}'
-[ "$WAIT" != 60 ] || exec sleep 60
-sleep ${{WAIT-0}}
+[ "$GO_ON" != never ] || exec sleep 1000
+until [ -e "$GO_ON" ]; do sleep 0.05; done
 tail -n +43 '{TREE}'
 exit 3
 """
@@ -31,11 +30,20 @@ class Watch(DoorCase):
         super().setUp()
         shutil.copytree(TOP / "lab/plift_lab", self.top / "lab/plift_lab")
         write_program(self.built(), GROWING)
-        hurried = (TOP / "tools/watch.py").read_text().replace("EARLIEST, EACH = 4.0, 1.0", "EARLIEST, EACH = 0.3, 0.1")
+        self.hurry(0.3)
+
+    def hurry(self, earliest: float) -> None:
+        """Has it told so soon how far a report is."""
+        text = (TOP / "tools/watch.py").read_text()
+        hurried = text.replace("EARLIEST, EACH = 4.0, 1.0", f"EARLIEST, EACH = {earliest}, 0.1")
         (self.top / "tools/watch.py").write_text(hurried)
 
-    def at_a_terminal(self, wait: float, stop: float = 0) -> Tuple[int, str, bytes]:
-        """What a call comes to whose standard error is a terminal: its status, what is told and the report."""
+    def at_a_terminal(self, awaited: str = "", is_stopped: bool = False) -> Tuple[int, str, bytes]:
+        """What a call comes to whose standard error is a terminal: its status, what is told and the report. Once what
+        is awaited is told, the program goes on, or it is stopped."""
+        go_on = self.room / "go on"
+        if not awaited:
+            go_on.touch()
         leader, follower = pty.openpty()
         with open(self.room / "out", "wb") as out, open(TREE, "rb") as given:
             process = subprocess.Popen(
@@ -43,34 +51,39 @@ class Watch(DoorCase):
                 stdin=given,
                 stdout=out,
                 stderr=follower,
-                env={**self.environment, "WAIT": str(wait)},
+                env={**self.environment, "GO_ON": "never" if is_stopped else str(go_on)},
                 start_new_session=True,
             )
         os.close(follower)
-        if stop:
-            time.sleep(stop)
-            os.killpg(process.pid, signal.SIGINT)
         told = b""
+        is_awaited = bool(awaited)
         try:
             while piece := os.read(leader, 1000):
                 told += piece
+                if is_awaited and awaited.encode() in told:
+                    is_awaited = False
+                    if is_stopped:
+                        os.killpg(process.pid, signal.SIGINT)
+                    else:
+                        go_on.touch()
         except OSError:  # the last that had the terminal open has ended
             pass
         os.close(leader)
-        return process.wait(30), told.decode(), (self.room / "out").read_bytes()
+        return process.wait(PATIENCE), told.decode(), (self.room / "out").read_bytes()
 
     def test_a_report_that_grows(self) -> None:
-        status, told, report = self.at_a_terminal(3)
+        status, told, report = self.at_a_terminal("in 3 rectangles")
         self.assertEqual((status, report), (3, TREE.read_bytes()))
         self.assertRegex(told, r"plift: \d s so far; 18\.8 % of the region is settled, in 3 rectangles")
 
     def test_a_report_that_comes_at_once(self) -> None:
-        status, told, report = self.at_a_terminal(0)
+        self.hurry(PATIENCE)
+        status, told, report = self.at_a_terminal()
         self.assertEqual((status, report), (3, TREE.read_bytes()))
         self.assertNotIn("so far", told)
 
     def test_what_stands_where_it_is_stopped(self) -> None:
-        status, told, report = self.at_a_terminal(60, stop=3)
+        status, told, report = self.at_a_terminal("in 3 rectangles", is_stopped=True)
         self.assertEqual(status, -signal.SIGINT)
         self.assertIn("plift: stopped; 18.8 % of the region stands in the file, cut off", told)
         self.assertTrue(TREE.read_bytes().startswith(report))

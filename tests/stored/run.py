@@ -26,7 +26,7 @@ import streams  # noqa: E402
 from cases import DONE, STATUSES, UNREADABLE, Answer, Case, left_out, stored  # noqa: E402
 from tables import TOP  # noqa: E402
 
-SECONDS = 120
+SECONDS = 600
 # The status of a run that took longer.
 STOPPED = -1
 # What `migrate` answers to a report that isn't of version 1.

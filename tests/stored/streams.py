@@ -30,7 +30,7 @@ verify | </dev/null 2>/dev/full | 2 |
 
 
 def answer_of(command: Sequence[str | bytes], **streams: Any) -> Answer:
-    done = subprocess.run(command, stderr=subprocess.PIPE, timeout=60, cwd=TOP, **streams)
+    done = subprocess.run(command, stderr=subprocess.PIPE, timeout=600, cwd=TOP, **streams)
     return Answer(done.returncode, done.stdout or b"", done.stderr)
 
 

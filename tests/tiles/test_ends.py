@@ -14,10 +14,12 @@ from common import COMMAND, EXAMPLES, Answer, Job, TilesCase, joined, work
 from plift_tiles.job import beside
 from plift_tiles.join import join
 
+# Seconds: longer than anything here takes on a busy machine, and less than a stand-in sleeps.
+PATIENCE = 600
 # Sleeps in the first call of `verify`, as its file tells whom to wake; then it is the program.
 SLOW = """if [ "$1" = verify ] && ! [ -e slept ]; then
     echo $$ > slept
-    exec sleep 60
+    exec sleep 1000
 fi
 exec "$PLIFT" "$@"
 """
@@ -45,7 +47,8 @@ class Ends(TilesCase):
             )
         assert process.stderr
         self.addCleanup(process.stderr.close)
-        for _ in range(600):
+        end = time.monotonic() + PATIENCE
+        while process.poll() is None and time.monotonic() < end:
             if (self.folder / "slept").exists() and (self.folder / "slept").read_text().endswith("\n"):
                 return process
             time.sleep(0.05)
@@ -55,7 +58,7 @@ class Ends(TilesCase):
         """Ends a call by a signal, and tells whether its program has ended, too."""
         child = int((self.folder / "slept").read_text())
         process.send_signal(number)
-        process.wait(60)
+        process.wait(PATIENCE)
         try:
             os.kill(child, signal.SIGKILL)
         except ProcessLookupError:

@@ -30,7 +30,7 @@ class Engines(TilesCase):
     def bash(self, line: str, **environment: str) -> int:
         """The status of a line of the shell, in whose folder the command stands."""
         environment = {**os.environ, "PLIFT_PROGRAM": str(self.script), "HOME": str(self.folder), **environment}
-        ran = subprocess.run(["bash", "-c", line], cwd=self.folder, env=environment, capture_output=True, timeout=300)
+        ran = subprocess.run(["bash", "-c", line], cwd=self.folder, env=environment, capture_output=True, timeout=600)
         return ran.returncode
 
     def require_joined(self) -> None:

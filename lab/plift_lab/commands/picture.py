@@ -12,6 +12,7 @@ import argparse
 import sys
 
 from ..faults import DONE
+from ..names import Names
 from ..picture import svg
 from ..session import Session
 
@@ -23,10 +24,16 @@ def add_words(words: argparse.ArgumentParser) -> None:
         '--x', metavar='P', help='the parameter from left to right; the first that a row depends on if left out'
     )
     words.add_argument('--y', metavar='P', help='the parameter from below up; the next one if left out')
+    words.add_argument(
+        '--model', metavar='MODEL', help='the model\'s text, which names the label; the report has numbers alone'
+    )
 
 
 def run(given: argparse.Namespace) -> int:
     """Does it."""
     with Session() as session:
-        sys.stdout.write(svg(session.read(given.report), given.x, given.y))
+        report = session.read(given.report)
+    if given.model is not None:
+        Names.read(given.model, report).name_goal(report)
+    sys.stdout.write(svg(report, given.x, given.y))
     return DONE

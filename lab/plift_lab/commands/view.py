@@ -15,12 +15,11 @@ import os
 import pkgutil
 import re
 import sys
-from dataclasses import replace
 from typing import Any, Dict, List, Optional, Tuple
 
-from ..evidence import read_file
 from ..faults import DONE, Fault
-from ..models import Model, NamedState
+from ..models import NamedState
+from ..names import Names
 from ..plain import plain
 from ..report import KINDS, Report
 from ..session import Session
@@ -50,27 +49,12 @@ def run(given: argparse.Namespace) -> int:
     """Does it."""
     with Session() as session:
         report = session.read(given.report)
-    names = None if given.model is None else Names(Model(read_file(given.model)), given.model, report)
+    names = None if given.model is None else Names.read(given.model, report)
     text = page(report, (given.x, given.y), given.title, names)
     if hasattr(sys.stdout, 'reconfigure'):
         sys.stdout.reconfigure(encoding='utf-8')
     sys.stdout.write(text)
     return DONE
-
-
-class Names:
-    """What a model's text calls the states and the choices of a report, which it has to fit."""
-
-    def __init__(self, model: Model, name: str, report: Report) -> None:
-        self.name, self.states = name, model.states()
-        choices = [max(1, len(state.actions)) for state in self.states]
-        if choices != report.choices:
-            raise Fault('%s isn\'t the model of the report: it has other states, or others of their choices' % name)
-        goals = set(report.goals)
-        labels = {label for state in goals for label in self.states[state].labels}
-        marked = {label: {n for n, one in enumerate(self.states) if label in one.labels} for label in labels}
-        self.goal = next((label for label in sorted(labels) if marked[label] == goals), None)
-        """A label that the goal states carry and no others."""
 
 
 def page(
@@ -80,8 +64,8 @@ def page(
     names: Optional[Names] = None,
 ) -> str:
     """The page, as one text."""
-    if names and names.goal is not None and report.origin.goal == 'goal':
-        report.origin = replace(report.origin, goal=names.goal)
+    if names:
+        names.name_goal(report)
     parts = {
         'TITLE': html.escape(title or report.question),
         'SUMMARY': html.escape(report.verdict_line),

@@ -47,7 +47,7 @@ def symbols_with(odd_names: Sequence[bytes] = ()) -> Pattern[bytes]:
 
 
 def decimal(text: bytes) -> Optional[Tuple[int, int]]:
-    """What is above and below the line of digits, with a point between them or without; none of what is no such text."""
+    """What is above and below the line of digits with a point between them or without; none of another text."""
     whole, point, behind = text.partition(b'.')
     if whole.isdigit() and (behind.isdigit() or not point) and len(text) <= MOST_DIGITS:
         return int(whole + behind), POWERS[len(behind)]

@@ -77,7 +77,7 @@ class Polynomial:
     @property
     def size(self) -> int:
         """The greatest of the numbers above the line, without its sign."""
-        return max(map(abs, self.terms.values())) if self.above is None else abs(self.above)
+        return max(abs(value) for value in self.terms.values()) if self.above is None else abs(self.above)
 
     @property
     def coefficients(self) -> Dict[Monomial, Fraction]:

@@ -38,7 +38,7 @@ def number(source: Source, told: Told) -> None:
 
 def _last_target(source: Source) -> int:
     """The greatest number of a target."""
-    return max(map(max, filter(None, (choice.targets for choice in source.choices))), default=0)
+    return max((max(choice.targets) for choice in source.choices if choice.targets), default=0)
 
 
 def _lead_to_places(source: Source) -> None:
