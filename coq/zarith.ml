@@ -24,3 +24,8 @@ let sub x y =
 let mul x y =
   if small x && small y && Stdlib.abs_float (Stdlib.float (int x) *. Stdlib.float (int y)) < 4e18
   then own (Stdlib.( * ) (int x) (int y)) else Z.mul x y
+(* A digit, or -1; ten times n and d, at once where n is below 2^58, and d below 16. *)
+let digit_value c : t = let d = Stdlib.( - ) (Char.code c) 48 in if d >= 0 && d < 10 then own d else own (-1)
+let tenfold n d =
+  if small n && small d && Stdlib.( lsr ) (int n) 58 = 0 && Stdlib.( lsr ) (int d) 4 = 0
+  then own (Stdlib.( + ) (Stdlib.( * ) 10 (int n)) (int d)) else Z.add (Z.mul (own 10) n) d
