@@ -25,7 +25,9 @@ exception Found of string
 (* The first test of a leaf that doesn't hold, state by state. *)
 let leaf setting box one trouble =
   let picks = ref (match trouble with AboveMean (_, _, _, p) | BelowMean (_, _, p, _) -> p) in
-  let pick () = match !picks with Some (Run (p, n, rest)) -> picks := Some (without_first p n rest); Some p | _ -> None in
+  let pick () = match !picks with
+    | Some (Run (p, n, rest)) -> picks := Some (if Z.leq n Z.one then rest else Run (p, Z.pred n, rest)); Some p
+    | _ -> None in
   let rows c = function
     | None -> List.mapi (fun a r -> (a, r)) c.choices
     | Some p -> if Z.sign p < 0 then [] else [(Z.to_int p, List.nth c.choices (Z.to_int p))] in

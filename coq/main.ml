@@ -11,67 +11,112 @@ let most_bytes = 1 lsl 32 and most_line = 1 lsl 20
 exception Too_long
 exception Read_fault
 
-(* The line being given out: its number, its bytes, and what is wrong with it as a whole. *)
+(* Bytes that were read and not yet given out, where they stand in the input, and where the line that is given out begins;
+   the number of that line, whether all its words were given out, and what is wrong with it as a whole. *)
 let channel = ref stdin
-let chunk = Bytes.create 65536 and from = ref 0 and upto = ref 0
-let line = Buffer.create 4096
-let number = ref 0 and taken = ref 0 and whole : cause option ref = ref None
+let chunk = ref (Bytes.create 65536) and from = ref 0 and upto = ref 0
+let before = ref 0 and beginning = ref 0
+let number = ref 0 and is_over = ref true and whole : cause option ref = ref None
 
-let rec feed i last = if i >= last || Bytes.unsafe_get chunk i = '\n' then i else feed (i + 1) last
-let rec next_line () =
-  if !from = !upto then begin
-    from := 0;
-    upto := (try input !channel chunk 0 (Bytes.length chunk) with Sys_error _ -> raise Read_fault)
-  end;
+(* Reads on behind the bytes that are there; false where nothing follows. *)
+let more () =
   let have = !upto - !from in
-  if have = 0 then (if Buffer.length line > 0 then whole := Some Truncated)
+  let there = if have < Bytes.length !chunk then !chunk else Bytes.create (2 * have) in
+  Bytes.blit !chunk !from there 0 have;
+  chunk := there;
+  before := !before + !from;
+  from := 0;
+  upto := have + (try input !channel there have (Bytes.length there - have) with Sys_error _ -> raise Read_fault);
+  !upto > have
+
+(* Where the word ends that begins at [from]; where the bytes end that are there, if nothing follows, or too many. *)
+let rec stop text i last =
+  if i >= last then i
+  else
+    let c = Bytes.unsafe_get text i in
+    if c > ' ' || c <> ' ' && c <> '\n' then stop text (i + 1) last else i
+let rec stop_from have =
+  let i = stop !chunk (!from + have) !upto in
+  if i < !upto then i
+  else
+    let have = i - !from in
+    if have <= most_line && more () then stop_from have else !upto
+
+(* Pieces: each word with the byte behind it. A piece is asked for once. The last bytes of most words are made once. *)
+let rec bytes text first i l = if i < first then l else bytes text first (i - 1) (Bytes.unsafe_get text i :: l)
+let short = Array.init 256 (fun code -> [Char.chr code; ' '])
+let digits = Array.init 100 (fun n -> Char.chr (48 + n / 10) :: short.(48 + n mod 10))
+let is_digit d = d >= 0 && d < 10
+let before_blank text first last =
+  if last - first < 1 then [' ']
   else begin
-    let room = min have (most_line + 1 - Buffer.length line) in
-    let n = feed !from (!from + room) - !from in
-    let is_end = n < room in
-    let n = if is_end then n + 1 else room in
-    Buffer.add_subbytes line chunk !from n;
-    from := !from + n;
-    if not is_end then (if Buffer.length line > most_line then whole := Some Limit else next_line ())
+    let unit = Char.code (Bytes.unsafe_get text (last - 1)) in
+    if last - first = 1 then Array.unsafe_get short unit
+    else
+      let ten = Char.code (Bytes.unsafe_get text (last - 2)) - 48 in
+      if is_digit ten && is_digit (unit - 48) then bytes text first (last - 3) (Array.unsafe_get digits (10 * ten + unit - 48))
+      else bytes text first (last - 2) (Array.unsafe_get short unit)
   end
 
-(* Pieces: each word of a line with the byte behind it. A piece is asked for once. Words of one byte are made once. *)
-let rec bytes text first i l = if i < first then l else bytes text first (i - 1) (String.unsafe_get text i :: l)
-let short = Array.init 256 (fun code -> [Char.chr code; ' '])
-let rec stop text last i = if i >= last || String.unsafe_get text i = ' ' then i else stop text last (i + 1)
-let rec word_of text last first =
-  let i = stop text last first in
-  let word =
-    if i = first + 1 && i < last then Array.unsafe_get short (Char.code (String.unsafe_get text first))
-    else bytes text first i [] in
-  Word (word, if i < last then (fun () -> word_of text last (i + 1)) else pieces)
+let rec word () =
+  let last = stop_from 0 in
+  let first = !from and text = !chunk in
+  let size = !before + last - !beginning in
+  if last = !upto || size > most_line then begin
+    if !before + last > most_bytes then raise Too_long;
+    whole := Some (if size > most_line then Limit else Truncated);
+    End
+  end
+  else begin
+    from := last + 1;
+    if Bytes.unsafe_get text last = ' ' then Word (before_blank text first last, word)
+    else begin
+      is_over := true;
+      if !before + !from > most_bytes then raise Too_long;
+      Word (bytes text first (last - 1) ['\n'], pieces)
+    end
+  end
 and pieces () =
-  match !whole with
-  | Some _ -> End
-  | None ->
-      Buffer.clear line;
-      next_line ();
-      incr number;
-      taken := !taken + Buffer.length line;
-      if !taken > most_bytes then raise Too_long;
-      if Buffer.length line = 0 then End else let text = Buffer.contents line in word_of text (String.length text - 1) 0
+  incr number;
+  beginning := !before + !from;
+  if !from = !upto && not (more ()) then End else begin is_over := false; word () end
 
-(* The numbers of a line, eight bytes each, in memory of its own; those that are no integers of OCaml's stand apart. It is
-   filled once, and is asked only when it is full; so to the checker these three are functions. Of a large model less room
-   is left to garbage. *)
+(* The rest of the line is read, so that it is known what is wrong with it as a whole. *)
+let rec end_line () = if not !is_over && !whole = None then begin ignore (word ()); end_line () end
+
+(* The numbers of a line, eight bytes each; those that are no integers of OCaml's stand apart, and min_int in their place.
+   A line is filled once, and is asked only when it is full. The memory of one of a place other than 0 is taken away, and
+   used again, for the next of that place; who asks for it nevertheless gets an exception. So to the checker these three
+   are functions. *)
 external get : Bytes.t -> int -> int64 = "%caml_bytes_get64u"
 external set : Bytes.t -> int -> int64 -> unit = "%caml_bytes_set64u"
+exception Taken_away
 type numbers = { of_state : Bytes.t; size : int; mutable count : int; mutable apart : (int * Z.t) list }
-let room percent = Gc.set { (Gc.get ()) with minor_heap_size = 1 lsl 18; space_overhead = percent }
-let is_large = ref false
-let fresh size =
-  let size = Z.to_int size in
-  if size > 8192 && not !is_large then begin is_large := true; room 25 end;
-  { of_state = Bytes.create (8 * size); size; count = 0; apart = [] }
+let none_yet size = { of_state = Bytes.create (8 * size); size; count = 0; apart = [] }
+let again n =
+  let next = { n with count = 0; apart = [] } in
+  n.count <- -1;
+  next
+
+(* While the model is read, and where memory is used again, there is little garbage but what is young; of a large model
+   less room is left to the lines of numbers that are garbage. *)
+let room percent = Gc.set { (Gc.get ()) with minor_heap_size = 1 lsl 16; space_overhead = percent }
+let has_model = ref false
+let at_place : (int, numbers) Hashtbl.t = Hashtbl.create 3
+let fresh place size =
+  let place = Z.to_int place and size = Z.to_int size in
+  if not !has_model then begin has_model := true; if size > 8192 then room 50 end;
+  let next =
+    match Hashtbl.find_opt at_place place with
+    | Some n when place <> 0 && n.size = size -> again n
+    | _ -> none_yet size in
+  Hashtbl.replace at_place place next;
+  next
 let push z n =
   if n.count < n.size then begin
-    if Z.small z then set n.of_state (8 * n.count) (Int64.of_int (Z.int z))
-    else begin set n.of_state (8 * n.count) Int64.min_int; n.apart <- (n.count, z) :: n.apart end;
+    if n.count < 0 then raise Taken_away;
+    if Z.small z && Z.int z <> min_int then set n.of_state (8 * n.count) (Int64.of_int (Z.int z))
+    else begin set n.of_state (8 * n.count) (Int64.of_int min_int); n.apart <- (n.count, z) :: n.apart end;
     n.count <- n.count + 1
   end;
   n
@@ -79,9 +124,10 @@ let see n =
   let of_state = n.of_state in
   fun s ->
     if Z.small s && Z.int s >= 0 && Z.int s < n.count then begin
-      let number = get of_state (8 * Z.int s) in
-      if Int64.equal number Int64.min_int then List.assoc (Z.int s) n.apart else Z.of_int (Int64.to_int number)
+      let number = Int64.to_int (get of_state (8 * Z.int s)) in
+      if number = min_int then List.assoc (Z.int s) n.apart else Z.own number
     end
+    else if n.count < 0 then raise Taken_away
     else Z.zero
 
 (* A place in the tree of shapes for each list of polynomials. *)
@@ -89,7 +135,9 @@ let mixed z = if Z.small z then Z.int z else Z.hash z
 module Table = Hashtbl.Make (struct
   type t = (Z.t * Z.t) list list
   let equal = same_polys
-  let hash polys = List.fold_left (List.fold_left (fun h (m, c) -> (h * 31 + mixed m) * 31 + mixed c)) 7 polys land max_int
+  let rec of_poly h = function [] -> h | (m, c) :: rest -> of_poly ((h * 31 + mixed m) * 31 + mixed c) rest
+  let rec of_polys h = function [] -> h | poly :: rest -> of_polys (of_poly h poly) rest
+  let hash polys = of_polys 7 polys land max_int
 end)
 let places = Table.create 1024
 let hint polys =
@@ -100,12 +148,16 @@ let hint polys =
     Table.add places polys p; p
 
 let named fault = "not sound: " ^ (try Faults.name !number !whole fault with _ -> "no place or cause was found")
+let refused fault = match end_line () with
+  | () -> (1, named fault)
+  | exception Too_long -> (7, "too long")
+  | exception Read_fault -> (5, "read fault")
 external end_where_memory_is_short : unit -> unit = "coq_check_memory" [@@noalloc]
 let refuse status note = (try prerr_endline note with Sys_error _ -> ()); exit status
 
 let () =
   end_where_memory_is_short ();
-  room 100;
+  room 400;
   (match Sys.argv with
    | [| _ |] -> set_binary_mode_in stdin true
    | [| _; ("-h" | "--help") |] ->
@@ -123,7 +175,7 @@ let () =
          flush stdout
        with Sys_error _ -> close_out_noerr stdout; refuse 6 "write fault")
   | Sound _ -> refuse 1 (named More)
-  | NotSound fault -> refuse 1 (named fault)
+  | NotSound fault -> let status, note = refused fault in refuse status note
   | exception Too_long -> refuse 7 "too long"
   | exception Read_fault -> refuse 5 "read fault"
   | exception (Out_of_memory | Stack_overflow) -> refuse 8 "out of memory"

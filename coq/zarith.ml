@@ -10,6 +10,9 @@ let leq x y = if small x && small y then int x <= int y else Z.leq x y
 let equal x y = if small x && small y then int x = int y else Z.equal x y
 let div2 x = if small x then own (Stdlib.( asr ) (int x) 1) else Z.shift_right x 1
 let is_odd x = if small x then Stdlib.( land ) (int x) 1 = 1 else Z.is_odd x
+let logor x y = if small x && small y then own (Stdlib.( lor ) (int x) (int y)) else Z.logor x y
+let neg x = if small x && int x <> Stdlib.min_int then own (Stdlib.( ~- ) (int x)) else Z.neg x
+let abs x = if lt x (own 0) then neg x else x
 let other_sign a b = Stdlib.( lxor ) a b < 0
 let add x y =
   if small x && small y then
