@@ -14,14 +14,14 @@ exception Read_fault
 (* Bytes that were read and not yet given out, where they stand in the input, and where the line that is given out begins;
    the number of that line, whether all its words were given out, and what is wrong with it as a whole. *)
 let channel = ref stdin
-let chunk = ref (Bytes.create 65536) and from = ref 0 and upto = ref 0
+let chunk = ref Bytes.empty and from = ref 0 and upto = ref 0
 let before = ref 0 and beginning = ref 0
 let number = ref 0 and is_over = ref true and whole : cause option ref = ref None
 
 (* Reads on behind the bytes that are there; false where nothing follows. *)
 let more () =
   let have = !upto - !from in
-  let there = if have < Bytes.length !chunk then !chunk else Bytes.create (2 * have) in
+  let there = if have < Bytes.length !chunk then !chunk else Bytes.create (max 65536 (2 * have)) in
   Bytes.blit !chunk !from there 0 have;
   chunk := there;
   before := !before + !from;
@@ -155,8 +155,7 @@ let refused fault = match end_line () with
 external end_where_memory_is_short : unit -> unit = "coq_check_memory" [@@noalloc]
 let refuse status note = (try prerr_endline note with Sys_error _ -> ()); exit status
 
-let () =
-  end_where_memory_is_short ();
+let main () =
   room 400;
   (match Sys.argv with
    | [| _ |] -> set_binary_mode_in stdin true
@@ -178,4 +177,7 @@ let () =
   | NotSound fault -> let status, note = refused fault in refuse status note
   | exception Too_long -> refuse 7 "too long"
   | exception Read_fault -> refuse 5 "read fault"
-  | exception (Out_of_memory | Stack_overflow) -> refuse 8 "out of memory"
+
+let () =
+  end_where_memory_is_short ();
+  try main () with Out_of_memory | Stack_overflow -> refuse 8 "out of memory"
