@@ -171,8 +171,27 @@ class Texts(CoqCase):
             coin.replace(b"1", b"\0"),
             coin.replace(b"9 16 0", b"9 16 " + b"0" * 5000),
             coin.replace(b"9 16 0", b"9 16 " + b"1" * 100000),
+            coin.replace(b"row 0", b"row x" + b" 1" * 2**20),
+            coin.replace(b"row 0", b"row 0" + b" 1" * (2**19 - 3)),
+            coin[: coin.index(b"row 0") + 5] + b" x 1",
         ):
             self.alike(repr(text[:60]), text)
+
+    def test_text_that_comes_byte_by_byte(self) -> None:
+        sound = {name: text for name, text in TEXTS.items() if checked(text).status == 0}
+        self.assertGreater(len(sound), 3)
+        for name, text in sound.items():
+            with subprocess.Popen([str(CHECKER)], stdin=subprocess.PIPE, stdout=subprocess.PIPE, bufsize=0) as checker:
+                assert checker.stdin and checker.stdout
+                for byte in text:
+                    checker.stdin.write(bytes([byte]))
+                checker.stdin.close()
+                self.assertEqual(checker.stdout.read(), checked(text).out, name)
+
+    def test_words_where_a_piece_of_the_input_ends(self) -> None:
+        for targets in range(9000, 9040):
+            text = wide_row(targets).replace(b"accept 1048576", b"accept 1000")
+            self.assertEqual(checked(text).status, 0, targets)
 
 
 class Ends(CoqCase):
@@ -200,7 +219,7 @@ class Ends(CoqCase):
         words = ["verify", "--goal", "done", "--bound", "9/10", "--region", "99/100<=p<=1,98/100<=q<=1", "--depth", "2"]
         self.assertLess(
             peak(subprocess.run([str(QUICK), *words], input=ladder, capture_output=True, check=True).stdout),
-            26 * 10**6,
+            20 * 10**6,
         )
         retry = (TOP / "examples" / "retry.drn").read_bytes()
         words = ["verify", "--goal", "lost", "--bound", "1/40", "--region", "1/10<=p<=1/2,1/10<=q<=1/2", "--depth"]
