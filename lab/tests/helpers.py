@@ -4,6 +4,7 @@ from __future__ import annotations
 
 import contextlib
 import io
+import signal
 import subprocess
 import tempfile
 import time
@@ -28,6 +29,12 @@ RANGE = COIN[: COIN.index(b'precision')].replace(b'plift 1', b'plift 2') + (
 
 PATIENCE = 600
 """Seconds: longer than anything here takes on a busy machine, and less than a stand-in sleeps."""
+
+
+def as_from_a_shell() -> None:
+    """For a process that is started: signals that the tests pass over, as in the background, are heard there."""
+    for number in (signal.SIGTERM, signal.SIGINT, signal.SIGHUP, signal.SIGQUIT):
+        signal.signal(number, signal.SIG_DFL)
 
 
 def wait_for(is_there: Callable[[], Any], process: 'subprocess.Popen[bytes]') -> None:

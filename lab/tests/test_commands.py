@@ -20,7 +20,7 @@ from plift_lab.faults import Fault
 from plift_lab.outputs import write_file
 from plift_lab.program import find_program
 
-from .helpers import EXAMPLES, LINKS, PATIENCE, RANGE, RETRY, TOP, TREE, InFolder, run, wait_for
+from .helpers import EXAMPLES, LINKS, PATIENCE, RANGE, RETRY, TOP, TREE, InFolder, as_from_a_shell, run, wait_for
 
 REGION = 'p=1/10..1/2,q=1/10..1/2'
 THIRD = b'@type: DTMC\n@model\nstate 0 init\n1 : 1/3\n2 : 2/3\nstate 1 a\n1 : 1\nstate 2\n2 : 1\n'
@@ -433,6 +433,7 @@ class Interrupted(InFolder):
             process = subprocess.Popen(
                 [sys.executable, str(TOP / 'lab/plift_lab/__main__.py'), 'bounds', *QUESTION, '--keep', str(keep)],
                 env=dict(os.environ, PLIFT_PROGRAM=slow),
+                preexec_fn=as_from_a_shell,
                 stdout=subprocess.PIPE,
                 stderr=subprocess.PIPE,
             )
@@ -464,6 +465,7 @@ class Interrupted(InFolder):
         process = subprocess.Popen(
             [sys.executable, str(TOP / 'lab/plift_lab/__main__.py'), *words, '--coverage', '99%'],
             env=dict(os.environ, PLIFT_PROGRAM=slow),
+            preexec_fn=as_from_a_shell,
             stdout=subprocess.PIPE,
             stderr=subprocess.PIPE,
         )

@@ -19,7 +19,7 @@ from plift_lab.outputs import Output
 from plift_lab.plain import listed, plain, printable
 from plift_lab.program import find_program
 
-from .helpers import EXAMPLES, PATIENCE, RETRY, TOP, TREE, InFolder, run, wait_for
+from .helpers import EXAMPLES, PATIENCE, RETRY, TOP, TREE, InFolder, as_from_a_shell, run, wait_for
 
 REGION = 'p=1/10..1/2,q=1/10..1/2'
 QUESTION = ('--goal', 'lost', '--region', REGION)
@@ -242,6 +242,7 @@ class Ends(Called):
             process = subprocess.Popen(
                 words,
                 env=dict(os.environ, PLIFT_PROGRAM=slow),
+                preexec_fn=as_from_a_shell,
                 cwd=str(self.folder),
                 stdout=subprocess.PIPE,
                 stderr=subprocess.PIPE,
@@ -268,6 +269,7 @@ class Ends(Called):
         process = subprocess.Popen(
             [sys.executable, MAIN, 'threshold', RETRY, *QUESTION, '--bound', '1/40', '--parameter', 'p', '--keep', 'k'],
             env=dict(os.environ, PLIFT_PROGRAM=slow),
+            preexec_fn=as_from_a_shell,
             cwd=str(self.folder),
             stdout=subprocess.PIPE,
             stderr=subprocess.PIPE,

@@ -22,8 +22,7 @@ RECORDS = (
     "18:215 19:215 20:219 21:313 22:313 23:315 24:321 25:322 26:323 27:323 28:344 29:344 30:346 31:347 32:348 "
     "33:352 34:352 35:354 36:354 37:359 38:375 39:383 40:384 41:387 42:388 43:389 44:398 45:399 46:400 47:402 "
     "48:403 49:404 50:406 51:438 52:438 53:440 54:440 55:441 56:446 57:446 58:453 59:500 60:1000",
-    "2:48 5:98 9:156 11:205 18:255 21:329 23:396 26:473 32:547 39:614 42:688 44:755 47:830 53:898 57:973 "
-    "60:1000",
+    "2:48 5:98 9:156 11:205 18:255 21:329 23:396 26:473 32:547 39:614 42:688 44:755 47:830 53:898 57:973 " "60:1000",
     "1:2 4:12 6:23 8:48 11:54 13:102 15:188 18:194 20:203 23:234 26:240 28:250 31:418 33:754 36:762 38:776 "
     "41:797 43:804 46:853 49:938 51:945 54:962 57:984 59:992 60:1000",
 )
@@ -88,9 +87,7 @@ class Following(InFolder):
         path.write_bytes(head + b"\n")
         for spans, due in ((1, 20), (2, 40)):
             told = io.StringIO()
-            with redirect_stderr(told), mock.patch(
-                "plift_lab.progress.slowness", lambda process: 1.0
-            ), mock.patch(
+            with redirect_stderr(told), mock.patch("plift_lab.progress.slowness", lambda process: 1.0), mock.patch(
                 "plift_lab.progress.Past.left", lambda self, spent, share: 3.0
             ):
                 progress = Progress(True)
@@ -127,9 +124,7 @@ class Following(InFolder):
             with self.assertRaises(KeyboardInterrupt) as stopped, Session() as session:
                 session.progress = progress
                 raise KeyboardInterrupt(2)
-            self.assertEqual(
-                stopped.exception.args, (2, "so far: 100.0 % of the region is settled")
-            )
+            self.assertEqual(stopped.exception.args, (2, "so far: 100.0 % of the region is settled"))
             progress.say("p between 1 and 2")
             progress._told -= 11
             progress.watcher()(path, os.getpid())  # type: ignore[misc]

@@ -87,7 +87,7 @@ class Recheck(EndCase):
     def test_ctrl_c(self) -> None:
         """Ended by ctrl-C while it waits, it says nothing."""
         for words in ([str(RECHECK)], [str(LUMPED), DIE]):
-            child = subprocess.Popen([sys.executable, *words], stdin=-1, stdout=-1, stderr=-1)
+            child = subprocess.Popen([sys.executable, *words], stdin=-1, stdout=-1, stderr=-1, preexec_fn=hear_ctrl_c)
             while Path(f"/proc/{child.pid}/wchan").read_text() not in ("pipe_read", "anon_pipe_read"):
                 time.sleep(0.01)
                 self.assertIsNone(child.poll())
@@ -106,6 +106,11 @@ class Recheck(EndCase):
         text = Path(REPORT).read_bytes().replace(b"accept 28 93 308 0 1024\n", b"accept" + b" 10" * 340000 + b"\n")
         self.assertEqual(run([str(RECHECK)], text).status, 1)
         self.assertEqual(run([str(RECHECK)], text, room=room), Ending(8, "", "out of memory\n"))
+
+
+def hear_ctrl_c() -> None:
+    """For a process that is started: it hears ctrl-C though these tests may pass it over, as in the background."""
+    signal.signal(signal.SIGINT, signal.SIG_DFL)
 
 
 class Lumped(EndCase):

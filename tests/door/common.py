@@ -3,6 +3,7 @@
 import importlib.util
 import os
 import shutil
+import signal
 import subprocess
 import sys
 import tempfile
@@ -52,6 +53,15 @@ echo "end $crate" >>"$CALLS"
 """
 
 COMMANDS = ["verify", "bounded", "property", "cost", "lumped", "check", "migrate", "refine", "generate", "selftest"]
+
+
+ENDING = (signal.SIGTERM, signal.SIGINT, signal.SIGHUP, signal.SIGQUIT, signal.SIGPIPE)
+
+
+def as_from_a_shell() -> None:
+    """For a process that is started: signals that these tests pass over, as in the background, are heard there."""
+    for number in ENDING:
+        signal.signal(number, signal.SIG_DFL)
 
 
 def waits(each: float = 0.02) -> Iterator[None]:

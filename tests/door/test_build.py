@@ -9,7 +9,7 @@ import unittest
 from pathlib import Path
 from typing import List, Tuple
 
-from common import PATIENCE, DoorCase, tool, waits
+from common import PATIENCE, DoorCase, as_from_a_shell, tool, waits
 
 build = tool("build")
 
@@ -67,7 +67,8 @@ class Parts(unittest.TestCase):
 class Builds(DoorCase):
     def start(self, crate: str = "plift", **environment: str) -> "subprocess.Popen[str]":
         words = ["python3", str(self.top / "tools/build.py"), crate, str(self.top / "build/logs")]
-        return subprocess.Popen(words, env={**self.environment, **environment}, stderr=subprocess.PIPE, text=True)
+        own = {**self.environment, **environment}
+        return subprocess.Popen(words, env=own, stderr=subprocess.PIPE, text=True, preexec_fn=as_from_a_shell)
 
     def end(self, started: "subprocess.Popen[str]") -> Tuple[int, str]:
         told = started.communicate(timeout=PATIENCE)[1]

@@ -8,7 +8,7 @@ import subprocess
 import unittest
 from typing import Dict, List
 
-from common import COMMANDS, PATIENCE, DoorCase, waits
+from common import COMMANDS, PATIENCE, DoorCase, as_from_a_shell, waits
 
 WORDS = ["verify", "", " two  blanks ", "it's \"quoted\"", "a\nline\n", "*", "$HOME", "--goal=-", "\\"]
 SHELLS: List[List[str]] = [[], ["bash"], ["bash", "--posix"]]
@@ -168,6 +168,7 @@ class Runs(Door):
                         stdout=subprocess.DEVNULL,
                         stderr=subprocess.PIPE,
                         env={**self.environment, **environment, "SLEEP": str(slept)},
+                        preexec_fn=as_from_a_shell,
                     )
                     for _ in waits():
                         if started.poll() is not None or (slept.exists() and slept.read_text().endswith("\n")):

@@ -10,9 +10,8 @@ import unittest
 from pathlib import Path
 from typing import Dict, List, Mapping, Tuple
 
-from common import PATIENCE, TOP, DoorCase, waits, write_program
+from common import ENDING, PATIENCE, TOP, DoorCase, as_from_a_shell, waits, write_program
 
-ENDING = (signal.SIGTERM, signal.SIGINT, signal.SIGHUP, signal.SIGQUIT, signal.SIGPIPE)
 # Compiles for a minute, by a process of its own. It tells both in the file $CALLS.
 FAKE_CARGO = """#!/bin/sh
 case $1 in
@@ -33,14 +32,8 @@ class Signals(DoorCase):
         """Starts a command of the checkout, which by and by tells the numbers of what it has started."""
         self.calls.unlink(missing_ok=True)
         return subprocess.Popen(
-            words, stdout=-3, stderr=-1, env={**self.environment, **environment}, preexec_fn=self.as_from_a_shell
+            words, stdout=-3, stderr=-1, env={**self.environment, **environment}, preexec_fn=as_from_a_shell
         )
-
-    @staticmethod
-    def as_from_a_shell() -> None:
-        """Signals that these tests pass over are heard there."""
-        for number in ENDING:
-            signal.signal(number, signal.SIG_DFL)
 
     def numbers(self) -> List[int]:
         """The processes that were started, once they are."""

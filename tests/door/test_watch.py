@@ -11,7 +11,7 @@ import sys
 import unittest
 from typing import Tuple
 
-from common import PATIENCE, TOP, DoorCase, write_program
+from common import PATIENCE, TOP, DoorCase, as_from_a_shell, write_program
 
 TREE = TOP / "examples/retry-tree.report"
 # Writes three of six leaves, waits until it is told to go on, if at all, and writes the others.
@@ -53,6 +53,7 @@ class Watch(DoorCase):
                 stderr=follower,
                 env={**self.environment, "GO_ON": "never" if is_stopped else str(go_on)},
                 start_new_session=True,
+                preexec_fn=as_from_a_shell,
             )
         os.close(follower)
         told = b""

@@ -19,6 +19,8 @@ import draw as script  # noqa: E402
 
 VIEW = TOP / "build" / "quick" / "plift-view"
 SHOWN: List[List[str]] = [[], ["--summary"], ["--x", "none"]]
+NARROW = "100000000001/1000000000000"
+"""So little above 1/10 that an axis between them has no ticks."""
 Refusals = List[Tuple[List[str], Any, int, str]]  # words, a text, a status and a note
 PLIFT = TOP / "build" / "quick" / "plift"
 
@@ -438,6 +440,8 @@ class Reports(unittest.TestCase):
         asked = [
             ("coin.drn", "heads", "1/10<=p<=9/10", "6"),
             ("links.drn", "lost", "1/10<=p<=1/2,1/10<=q<=1/2", "6"),
+            ("links.drn", "lost", f"1/10<=p<=1/2,1/10<=q<={NARROW}", "2"),
+            ("links.drn", "lost", f"1/10<=p<={NARROW},1/10<=q<={NARROW}", "2"),
             ("chain.drn", "lost", "1/2<=p<=1,1/2<=q<=1,1/2<=r<=1", "9"),
         ]
         for model, goal, region, depth in asked:
@@ -445,6 +449,16 @@ class Reports(unittest.TestCase):
             done = subprocess.run(line, input=(TOP / "examples" / model).read_bytes(), capture_output=True, check=True)
             found.append(done.stdout)
         return [*found, found[0][:-1], found[0].replace(b"accept", b"reject", 1), b"", b"plift 3\n"]
+
+    def test_it_is_told_once_that_ticks_are_rounded(self) -> None:
+        if not os.access(VIEW, os.X_OK) or not os.access(PLIFT, os.X_OK):
+            self.skipTest("the quick programs aren't built")
+        for p, q, due in (("1/2", "1/2", 1), ("1/2", NARROW, 1), (NARROW, "1/2", 1), (NARROW, NARROW, 0)):
+            line = [str(PLIFT), "verify", "--goal", "lost", "--bound", "1/4"]
+            region = ["--region", f"1/10<=p<={p},1/10<=q<={q}", "--depth", "2"]
+            model = (TOP / "examples/links.drn").read_bytes()
+            report = subprocess.run([*line, *region], input=model, capture_output=True, check=True).stdout
+            self.assertEqual(ask([str(VIEW)], [], report).out.count("ticks are rounded"), due, (p, q))
 
     def test_same_bytes(self) -> None:
         if not os.access(VIEW, os.X_OK) or not os.access(PLIFT, os.X_OK):

@@ -29,6 +29,11 @@ done
 RUSTC = "#!/bin/sh\necho rustc {version}\n"
 
 
+def hear_ctrl_c() -> None:
+    """For a process that is started: it hears ctrl-C though these tests may pass it over, as in the background."""
+    signal.signal(signal.SIGINT, signal.SIG_DFL)
+
+
 class Quick(unittest.TestCase):
     def setUp(self) -> None:
         folder = tempfile.TemporaryDirectory()
@@ -55,7 +60,12 @@ class Quick(unittest.TestCase):
     def start(self, *words: str) -> subprocess.Popen[str]:
         command = [sys.executable, str(self.top / "tools" / "quick.py"), *words]
         return subprocess.Popen(
-            command, env=self.environment, stdout=subprocess.PIPE, stderr=subprocess.PIPE, text=True
+            command,
+            env=self.environment,
+            preexec_fn=hear_ctrl_c,
+            stdout=subprocess.PIPE,
+            stderr=subprocess.PIPE,
+            text=True,
         )
 
     def run_quick(self, *words: str) -> tuple[int, str, str]:

@@ -35,6 +35,12 @@ exit 0                                                    | 1   | 1: plift refus
 """
 
 
+def as_from_a_shell() -> None:
+    """For a process that is started: signals that these tests pass over, as in the background, are heard there."""
+    for number in (signal.SIGTERM, signal.SIGINT, signal.SIGHUP, signal.SIGQUIT):
+        signal.signal(number, signal.SIG_DFL)
+
+
 class Ends(TilesCase):
     """Calls that don't end as they should."""
 
@@ -43,7 +49,12 @@ class Ends(TilesCase):
         environment = {**os.environ, "PLIFT_PROGRAM": str(program)}
         with open(self.folder / given, "rb") as source:
             process = subprocess.Popen(
-                [str(COMMAND), *line.split()], cwd=self.folder, env=environment, stdin=source, stderr=subprocess.PIPE
+                [str(COMMAND), *line.split()],
+                cwd=self.folder,
+                env=environment,
+                preexec_fn=as_from_a_shell,
+                stdin=source,
+                stderr=subprocess.PIPE,
             )
         assert process.stderr
         self.addCleanup(process.stderr.close)
