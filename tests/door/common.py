@@ -137,6 +137,7 @@ class DoorCase(unittest.TestCase):
         self.environment = {**os.environ, "CALLS": str(self.calls), "STAND_IN": str(self.room / "stand-in")}
         self.environment["PATH"] = f"{self.room / 'bin'}:{os.environ['PATH']}"
         self.environment.pop("PLIFT_HINTS", None)
+        self.environment.pop("PLIFT_PROGRAM", None)
 
     def built(self, crate: str = "plift") -> Path:
         """Puts a program that stands in where the proved one is found."""
