@@ -185,7 +185,13 @@ module _ (text : List ℕ) (leaves : Summary) (file : IsSoundFile text leaves) (
       by (Err refusal.Memory) same = same
       by (Err (refusal.Usage f)) (is, same) = ((h, file.tree, sound_text, is), same)
       by (Err (refusal.Rows error)) (is, same) = ((h, file.tree, sound_text, is), same)
-      by (Err _) (is, same) = absurd is
+      by (Err (refusal.Model error)) (is, same) = absurd is
+      by (Err (refusal.Region error)) (is, same) = absurd is
+      by (Err (refusal.Unsound error)) (is, same) = absurd is
+      by (Err refusal.NotChain) (is, same) = absurd is
+      by (Err refusal.TooWide) (is, same) = absurd is
+      by (Err refusal.ReadFault) (is, same) = absurd is
+      by (Err refusal.TooLong) (is, same) = absurd is
 
 -- ---- a text that was read whole
 
