@@ -68,13 +68,8 @@ class Progress:
         """Tells what share of a report's region is settled, and how long all is likely to take, when judging what there
         is of it takes so long."""
         spent = time.monotonic() - self._begin
-        if (
-            not inner and not self._share or inner is None or self._span is None
-        ):  # a short report comes at once
-            self._put(
-                "%s%s so far"
-                % (self.text + "; " if self.text else "", seconds_shown(spent))
-            )
+        if not inner and not self._share or inner is None or self._span is None:  # a short report comes at once
+            self._put("%s%s so far" % (self.text + "; " if self.text else "", seconds_shown(spent)))
             return
         low, high = self._span
         self._share = max(self._share, low + (high - low) * inner)
@@ -121,14 +116,10 @@ class Progress:
 def slowness(process: int) -> float:
     """How many seconds pass for each that a process gets of a processor; 1 where that can't be told."""
     try:
-        with open(
-            "/proc/%d/stat" % process, encoding="ascii", errors="replace"
-        ) as source:
+        with open("/proc/%d/stat" % process, encoding="ascii", errors="replace") as source:
             words = source.read().rpartition(")")[2].split()
         with open("/proc/uptime", encoding="ascii") as source:
-            passed = float(source.read().split()[0]) - int(words[19]) / os.sysconf(
-                "SC_CLK_TCK"
-            )
+            passed = float(source.read().split()[0]) - int(words[19]) / os.sysconf("SC_CLK_TCK")
         used = (int(words[11]) + int(words[12])) / os.sysconf("SC_CLK_TCK")
     except (OSError, ValueError, IndexError):
         return 1.0
@@ -156,11 +147,7 @@ def time_left(past: Sequence[Tuple[float, float]]) -> Optional[float]:
         return None
     told = []
     for since in SINCE:
-        begin, done = (
-            next((one for one in reversed(past) if one[0] <= spent * since), past[0])
-            if since
-            else (0.0, 0.0)
-        )
+        begin, done = next((one for one in reversed(past) if one[0] <= spent * since), past[0]) if since else (0.0, 0.0)
         if share <= done or spent <= begin:
             return None
         told.append((spent - begin) / (share - done) * (1 - share))
@@ -198,10 +185,7 @@ class Follower:
             elif key == b"split ":
                 half = self._due.pop() / 2
                 self._due += [half, half]
-            elif (
-                key in (b"accept", b"reject", b"unknow", b"holds", b"fails")
-                and self._due
-            ):
+            elif key in (b"accept", b"reject", b"unknow", b"holds", b"fails") and self._due:
                 self._share += self._due.pop()
                 self.leaves += 1
         return self._share
@@ -211,8 +195,4 @@ def seconds_shown(seconds: float) -> str:
     """A time for people."""
     if seconds < 100:
         return "%d s" % round(seconds)
-    return (
-        "%d min" % round(seconds / 60)
-        if seconds < 6000
-        else "%.1f h" % (seconds / 3600)
-    )
+    return "%d min" % round(seconds / 60) if seconds < 6000 else "%.1f h" % (seconds / 3600)
