@@ -32,7 +32,7 @@ class Progress:
     def __init__(self, is_on: bool) -> None:
         self.is_on = is_on
         self.is_terminal = sys.stderr.isatty()
-        self.text = ""
+        self.text = ''
         """What is known so far."""
         self._begin = self._told = time.monotonic()
         self._width, self._share = 0, 0.0
@@ -46,7 +46,7 @@ class Progress:
         yield
         self._span = None
 
-    def watcher(self, pace: float = CHECKED) -> "Optional[Watch]":
+    def watcher(self, pace: float = CHECKED) -> 'Optional[Watch]':
         """What is called with the growing report while the program runs; so many bytes of it are judged in a second."""
         if not self.is_on:
             return None
@@ -62,31 +62,31 @@ class Progress:
     def judging(self) -> None:
         """Tells that a report is whole and is judged now."""
         if self.is_on and self._share and self._is_due():
-            self._put("%s, and is judged now" % self._settled)
+            self._put('%s, and is judged now' % self._settled)
 
     def _tell(self, inner: Optional[float], judging: float) -> None:
         """Tells what share of a report's region is settled, and how long all is likely to take, when judging what there
         is of it takes so long."""
         spent = time.monotonic() - self._begin
         if not inner and not self._share or inner is None or self._span is None:  # a short report comes at once
-            self._put("%s%s so far" % (self.text + "; " if self.text else "", seconds_shown(spent)))
+            self._put('%s%s so far' % (self.text + '; ' if self.text else '', seconds_shown(spent)))
             return
         low, high = self._span
         self._share = max(self._share, low + (high - low) * inner)
         left = self._past.left(spent, self._share)
         if left is not None:
             left += judging / inner * (1 - low) / (high - low)
-        told = "" if left is None else ", some %s left" % seconds_shown(left)
-        self._put("%s after %s%s" % (self._settled, seconds_shown(spent), told))
+        told = '' if left is None else ', some %s left' % seconds_shown(left)
+        self._put('%s after %s%s' % (self._settled, seconds_shown(spent), told))
 
     @property
     def _settled(self) -> str:
-        return "%.1f %% of the region is settled" % (100 * self._share)
+        return '%.1f %% of the region is settled' % (100 * self._share)
 
     @property
     def known(self) -> str:
         """What is known so far, for who stops the job; nothing where nothing was told."""
-        return self.text or (self._settled if self._share else "")
+        return self.text or (self._settled if self._share else '')
 
     def say(self, text: str) -> None:
         """Keeps what is known so far, and tells it, unless something was told just before."""
@@ -97,7 +97,7 @@ class Progress:
     def clear(self) -> None:
         """Takes the line on a terminal away."""
         if self._width:
-            say("\r" + " " * self._width, "\r")
+            say('\r' + ' ' * self._width, '\r')
             self._width = 0
 
     def _is_due(self) -> bool:
@@ -107,20 +107,17 @@ class Progress:
         self._told = time.monotonic()
         if self.is_terminal:
             self._width = max(self._width, len(text))
-        say(
-            "\r" + text.ljust(self._width) if self.is_terminal else text,
-            "" if self.is_terminal else "\n",
-        )
+        say('\r' + text.ljust(self._width) if self.is_terminal else text, '' if self.is_terminal else '\n')
 
 
 def slowness(process: int) -> float:
     """How many seconds pass for each that a process gets of a processor; 1 where that can't be told."""
     try:
-        with open("/proc/%d/stat" % process, encoding="ascii", errors="replace") as source:
-            words = source.read().rpartition(")")[2].split()
-        with open("/proc/uptime", encoding="ascii") as source:
-            passed = float(source.read().split()[0]) - int(words[19]) / os.sysconf("SC_CLK_TCK")
-        used = (int(words[11]) + int(words[12])) / os.sysconf("SC_CLK_TCK")
+        with open('/proc/%d/stat' % process, encoding='ascii', errors='replace') as source:
+            words = source.read().rpartition(')')[2].split()
+        with open('/proc/uptime', encoding='ascii') as source:
+            passed = float(source.read().split()[0]) - int(words[19]) / os.sysconf('SC_CLK_TCK')
+        used = (int(words[11]) + int(words[12])) / os.sysconf('SC_CLK_TCK')
     except (OSError, ValueError, IndexError):
         return 1.0
     return max(1.0, passed / used) if used else 1.0
@@ -140,8 +137,7 @@ class Past:
 
 def time_left(past: Sequence[Tuple[float, float]]) -> Optional[float]:
     """Seconds that are left, from times and the shares that were done by then. None where it can't be told: parts of a
-    region take very different times, so what came on the whole, of late and last of all have to tell about the same.
-    """
+    region take very different times, so what came on the whole, of late and last of all have to tell about the same."""
     spent, share = past[-1]
     if spent < EARLIEST or share < LEAST_SHARE:
         return None
@@ -158,7 +154,7 @@ class Follower:
     """How much of the region's volume the leaves of a growing report have, and how many there are."""
 
     def __init__(self) -> None:
-        self._place, self._rest, self._is_head, self._share = 0, b"", True, 0.0
+        self._place, self._rest, self._is_head, self._share = 0, b'', True, 0.0
         self.leaves = 0
         self._due = [1.0]
 
@@ -170,22 +166,22 @@ class Follower:
     def settled(self, path: Path) -> float:
         """Reads what has come since it was called last."""
         try:
-            with open(path, "rb") as source:
+            with open(path, 'rb') as source:
                 source.seek(self._place)
                 new = source.read()
         except OSError:
             return self._share
         self._place += len(new)
-        lines = (self._rest + new).split(b"\n")
+        lines = (self._rest + new).split(b'\n')
         self._rest = lines.pop()
         for line in lines:
             key = line[:6]
             if self._is_head:
-                self._is_head = line[:3] != b"box"
-            elif key == b"split ":
+                self._is_head = line[:3] != b'box'
+            elif key == b'split ':
                 half = self._due.pop() / 2
                 self._due += [half, half]
-            elif key in (b"accept", b"reject", b"unknow", b"holds", b"fails") and self._due:
+            elif key in (b'accept', b'reject', b'unknow', b'holds', b'fails') and self._due:
                 self._share += self._due.pop()
                 self.leaves += 1
         return self._share
@@ -194,5 +190,5 @@ class Follower:
 def seconds_shown(seconds: float) -> str:
     """A time for people."""
     if seconds < 100:
-        return "%d s" % round(seconds)
-    return "%d min" % round(seconds / 60) if seconds < 6000 else "%.1f h" % (seconds / 3600)
+        return '%d s' % round(seconds)
+    return '%d min' % round(seconds / 60) if seconds < 6000 else '%.1f h' % (seconds / 3600)
