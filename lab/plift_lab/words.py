@@ -16,3 +16,12 @@ class Words(argparse.ArgumentParser):
     def _print_message(self, message: str, file: Optional[IO[str]] = None) -> None:
         """Writes a page. What can't be written is a fault, which the parser itself would pass over."""
         (file or sys.stderr).write(message)
+
+
+def add_drawn(words: argparse.ArgumentParser) -> None:
+    """The words of a command that draws a report: which one, and what its axes are."""
+    words.add_argument('report', metavar='REPORT', help='a file with a report; - for standard input')
+    words.add_argument(
+        '--x', metavar='P', help='the parameter from left to right; the first that a row depends on if left out'
+    )
+    words.add_argument('--y', metavar='P', help='the parameter from below up; the next one if left out')

@@ -15,15 +15,12 @@ from ..faults import DONE
 from ..names import Names
 from ..picture import svg
 from ..session import Session
+from ..words import add_drawn
 
 
 def add_words(words: argparse.ArgumentParser) -> None:
     """The words of the command."""
-    words.add_argument('report', metavar='REPORT', help='a file with a report; - for standard input')
-    words.add_argument(
-        '--x', metavar='P', help='the parameter from left to right; the first that a row depends on if left out'
-    )
-    words.add_argument('--y', metavar='P', help='the parameter from below up; the next one if left out')
+    add_drawn(words)
     words.add_argument(
         '--model', metavar='MODEL', help='the model\'s text, which names the label; the report has numbers alone'
     )

@@ -24,6 +24,7 @@ from ..plain import plain
 from ..report import KINDS, Report
 from ..session import Session
 from ..values import exact, percent
+from ..words import add_drawn
 
 SCRIPTS = ('tree.js', 'plot.js', 'controls.js')
 MOST_SCHEDULERS = 2**22
@@ -32,11 +33,7 @@ MOST_SCHEDULERS = 2**22
 
 def add_words(words: argparse.ArgumentParser) -> None:
     """The words of the command."""
-    words.add_argument('report', metavar='REPORT', help='a file with a report; - for standard input')
-    words.add_argument(
-        '--x', metavar='P', help='the parameter from left to right; the first that a row depends on if left out'
-    )
-    words.add_argument('--y', metavar='P', help='the parameter from below up; the next one if left out')
+    add_drawn(words)
     words.add_argument(
         '--model',
         metavar='MODEL',
