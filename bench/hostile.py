@@ -818,6 +818,30 @@ def recheck_rows_times_leaves() -> str:
     return rows_by_leaves(3)
 
 
+@kind("recheck")
+def recheck_rows_times_64_leaves() -> str:
+    """a report of 64 accepting leaves, for each of which 2,500 rows are tested by recheck.py"""
+    return rows_by_leaves(6)
+
+
+@kind("recheck")
+def recheck_two_states() -> str:
+    """a report of two states, with as many rows with a product of four parameters and as many leaves as fit"""
+    lines = ["plift 1", "kind mdp", "parameters 4 a b c d", "common 99999", "states 2", "init 0", "goal 1 1"]
+    for choice in range(10900):
+        lines += [f"row 0 {choice} 2", f"to 0 0:99999 15:-{choice + 1}", f"to 1 15:{choice + 1}"]
+    lines += ["row 1 0 1", "to 1 0:99999", "bound 1/1", "precision 1", "depth 15", "grid 268435455"]
+    return "\n".join(lines) + "\nbox" + " 0 262144" * 4 + "\n" + halved(27000, "accept 2 2\n", 4)
+
+
+def halved(count: int, leaf: str, axes: int, level: int = 0) -> str:
+    """A tree of so many leaves; the rectangles are halved on each parameter in turn."""
+    if count == 1:
+        return leaf
+    parts = [halved(part, leaf, axes, level + 1) for part in (count - count // 2, count // 2)]
+    return "split %d\n" % (level % axes) + "".join(parts)
+
+
 # ----
 
 

@@ -10,9 +10,9 @@ import os
 import re
 import sys
 from collections import Counter
-from itertools import product
+from itertools import groupby, product
 from math import gcd, prod
-from operator import mul
+from operator import mul, sub
 from typing import BinaryIO, Callable, Dict, Iterator, List, Optional, Tuple
 
 NONE = 2**32  # for a choice or a rank that is `-`
@@ -22,19 +22,13 @@ REPORT, BOUNDED, PROPERTY, COST = FORMS = b'plift', b'plift-bounded', b'plift-pr
 NUMBER, NAME = re.compile(rb'0|-?[1-9][0-9]*'), re.compile(rb'[A-Za-z_][A-Za-z0-9_]*')
 Box = List[Tuple[int, int]]  # a rectangle: for each parameter its two ends
 Poly = Tuple[Tuple[int, int], ...]  # terms (set of parameters, coefficient); bit i of a set is the i-th parameter
-Products = Dict[Tuple[int, ...], List[List[int]]]  # for each list of sets and each corner, of each set the product
-Row = Tuple[List[int], 'Shape']  # the targets of its transitions, and their polynomials
-Corners = Dict['Shape', Tuple[int, List[List[int]]]]  # what stands for 1; at each corner, the transitions' weights
+Row = Tuple[int, List[int], 'Shape']  # its choice, the targets of its transitions, and their polynomials
 Marks = Optional[List[int]]  # for each state a choice or a rank; None: each choice counts
 getattr(sys, 'set_int_max_str_digits', int)(0)  # a line may hold a number of any length
 
 
 class Fault(Exception):
     """What is wrong. Where it is wrong, the text tells: its place."""
-
-
-class TooLong(Exception):
-    """More bytes than a report may have."""
 
 
 def need(holds: object, cause: str = 'Syntax') -> None:
@@ -58,7 +52,7 @@ def number(word: bytes) -> int:
 
 def numbers(words: list[bytes], count: int | None = None) -> list[int]:
     need(count in (None, len(words)) and all(map(NUMBER.fullmatch, words)))
-    return list(map(number, words))
+    return list(map(number, words)) if max(map(len, words), default=0) > 1000 else list(map(int, words))
 
 
 def pair(word: bytes, mark: bytes) -> tuple[int, int]:
@@ -66,13 +60,12 @@ def pair(word: bytes, mark: bytes) -> tuple[int, int]:
     return left, right
 
 
-def lowest(fraction: tuple[int, int], above: int, below: int) -> tuple[int, int]:
+def lowest(n: int, d: int, above: int, below: int) -> tuple[int, int]:
     """A fraction in lowest terms of at least 0, neither part of which is above its limit."""
-    n, d = fraction
     need(0 <= n <= above and d > 0, 'Limit')
     need(gcd(n, d) == 1)
     need(d <= below, 'Limit')
-    return fraction
+    return n, d
 
 
 class Text:
@@ -85,7 +78,7 @@ class Text:
         """The line that is due, as far as a line may go; nothing where nothing is left."""
         self.held = self.held or self.source.readline(MOST_LINE + 1)
         if self.taken + len(self.held) > MOST_BYTES:
-            raise TooLong
+            raise OverflowError
         return self.held
 
     def due(self) -> list[bytes]:
@@ -117,16 +110,46 @@ class Shape:
     def __init__(self, polys: tuple[Poly, ...], first: tuple[int, int, list[int]]) -> None:
         self.polys, self.first, self.sets = polys, first, tuple({m for poly in polys for m, _ in poly})
         self.parameters = [i for i in range(16) if any(m >> i & 1 for m in self.sets)]
+        self.box, self.weights = [], []  # type: Box, List[List[int]]
         used = self.sets if len(self.parameters) <= 4 else ()  # else the row is refused, and no corner is asked for
         self.factors = [[dict(poly).get(m, 0) for m in used] for poly in polys]
 
-    def corners(self, box: Box, grid: int, known: Products) -> list[list[int]]:
+    def corners(self, box: Box, grid: int, known: dict[tuple[int, ...], list[list[int]]]) -> list[list[int]]:
         """For each corner in a rectangle, the weight of each transition. Products at known sets aren't made again."""
-        if self.sets not in known:
-            sides = [[(1 << i, end) for end in box[i]] for i in reversed(self.parameters)]  # bit 0: of the first one
-            ends = list(product(*sides))
-            known[self.sets] = [[prod([n if m & i else grid for i, n in at]) for m in self.sets] for at in ends]
-        return [[sum(map(mul, factors, at)) for factors in self.factors] for at in known[self.sets]]
+        if self.box is not box:
+            if self.sets not in known:
+                sides = [[(1 << i, end) for end in box[i]] for i in reversed(self.parameters)]
+                ends = product(*sides)  # bit 0 of a corner's number: of the first parameter
+                known[self.sets] = [[prod([n if m & i else grid for i, n in at]) for m in self.sets] for at in ends]
+            self.box, self.weights = box, [[sum(map(mul, it, at)) for it in self.factors] for at in known[self.sets]]
+        return self.weights
+
+
+class Choices:
+    """Rows of a state over the same parameters, tested at once: long integers have a field of 128 bits for each, so all
+    are added, or multiplied by a number, in one step. By the rule of width (test_rows) what is tested lies between
+    -2^126 and 2^126: with 2^127 in each field besides, its top bit tells whether a number is at least 0, and none runs
+    over. Greater ones on the way do no harm: sums of multiples of 2^128 are exact, and fields are read at the end."""
+
+    def __init__(self, rows: list[Row], report: Report) -> None:
+        self.rows, self.parameters, g = rows, rows[0][2].parameters, len(rows[0][2].parameters)
+        self.ones, self.whole = sum([1 << 128 * i for i in range(len(rows))]), report.common * report.grid**g
+        polys = [(i, s, poly) for i, row in enumerate(rows) for s, poly in zip(row[1], row[2].polys)]
+        self.terms = {(m, s): 0 for _, s, poly in polys for m, _ in poly}  # for each set and target the coefficients
+        self.pays = 16 * sum([len(poly) for _, _, poly in polys]) >= len(rows) * len(self.terms)  # few fields are 0
+        for i, s, m, c in [(i, s, m, c) for i, s, poly in polys for m, c in poly if self.pays]:
+            self.terms[m, s] += c * report.grid ** (g - bin(m).count('1')) << 128 * i
+
+    def hold(self, sign: int, times: int, e: int, value: Callable[[int], int], box: Box) -> bool:
+        """Whether in each row, at each corner, the mean of the targets' values is at least times / 2^e, or at most."""
+        signs, least = self.ones << 127, -(-times * self.whole >> e)
+        corners = [{0: signs - sign * least * self.ones}]  # at each choice of ends a polynomial in the others
+        for (m, s), fields in self.terms.items():
+            corners[0][m] = corners[0].get(m, 0) + fields * (sign * value(s))
+        for i in self.parameters:
+            sets = {m & ~(1 << i) for m in corners[0]}
+            corners = [{m: at.get(m, 0) + at.get(m | 1 << i, 0) * n for m in sets} for at in corners for n in box[i]]
+        return all([at[0] & signs == signs for at in corners])
 
 
 class Report:
@@ -153,30 +176,32 @@ class Report:
             need(i == 0 or goals[i - 1] < s)
             within(s, 0, self.size - 1)
         self.goals = set(goals)
-        self.shapes: Dict[Tuple[Poly, ...], Shape] = {}
-        self.states: List[List[Row]] = []
+        self.shapes, self.states = {}, []  # type: Dict[Tuple[Poly, ...], Shape], List[List[Row]]
         self.read_states(kind == [b'mdp'])
         costs = [pair(word, b'/') for word in text.take(b'cost')] if form == COST else [(0, 1)] * self.size
         need(len(costs) == self.size)
-        costs = [lowest(cost, COST_PART, COST_PART) for cost in costs]  # of a visit of each state
+        costs = [lowest(*cost, COST_PART, COST_PART) for cost in costs]  # of a visit of each state
         self.cap = text.single(b'cap', 1, PART) if form == COST else 1  # what 2^W stands for
         words = text.take({PROPERTY: b'property', COST: b'budget'}.get(form, b'bound'))
         self.op = words.pop(0) if form == PROPERTY and words else b'<='  # how probabilities have to compare with it
         need(self.op in (b'<=', b'<', b'>=', b'>'))
-        n, d = self.bound = lowest(pair(b' '.join(words), b'/'), self.cap * PART, PART)
+        n, d = self.bound = lowest(*pair(b' '.join(words), b'/'), self.cap * PART, PART)
         need(n <= self.cap * d, 'Limit')
         self.steps = range(1, text.single(b'steps', 1, 64) + 1 if form == BOUNDED else 1)  # of `bounded`
         self.most = text.single(b'precision', 1, 40)
         self.least = text.single(b'from', 1, self.most) if version == [2] else None  # of the leaves' precisions
         self.one, self.depth = 2**self.most, text.single(b'depth', 0, 20)  # one: probability 1, or the cap
-        self.start = [self.one if s in self.goals else 0 for s in range(self.size)]  # of `bounded`: after no step
-        self.prices = [-(-n * self.one // (d * self.cap)) for n, d in costs]  # of a visit of each state, rounded up
+        self.ranks, self.ends = [int(s not in self.goals) for s in range(self.size)], list(map(len, self.states))
+        self.prices = [-(-n * self.one // (d * self.cap)) * rank for rank, (n, d) in zip(self.ranks, costs)]
         self.grid, ends = text.single(b'grid', 1, 2**62 - 1), numbers(text.take(b'box'), 2 * self.parameters)
         for i, end in enumerate(ends):
             need(end % 2**self.depth == 0 and (i % 2 == 1 or end < ends[i + 1]))
             need(abs(end) < 2**62, 'Limit')
         self.box = list(zip(ends[::2], ends[1::2]))
         self.live = [i for i in range(16) if any(i in shape.parameters for shape in self.shapes.values())]
+        self.wholes = [self.common * self.grid**g for g in range(5)]  # what stands for 1 in rows of g parameters
+        self.many = {s: self.at_once(rows) for s, rows in enumerate(self.states) if len(rows) > 7}
+        self.leaf, self.known = self.box, {}  # type: Box, Dict[Tuple[int, ...], List[List[int]]]
 
     def read_states(self, is_mdp: bool, choices: int = 2**17, transitions: int = 2**18) -> None:
         """For each state its choices, each with its targets and its shape. Of each at most so many are left."""
@@ -193,7 +218,7 @@ class Report:
                 polys, targets = tuple(row.values()), list(row)
                 if polys not in self.shapes:
                     self.shapes[polys] = Shape(polys, (s, choice, targets))
-                rows.append((targets, self.shapes[polys]))
+                rows.append((choice, targets, self.shapes[polys]))
             self.states.append(rows)
 
     def read_transition(self, row: dict[int, Poly]) -> None:
@@ -209,10 +234,17 @@ class Report:
             need(c != 0)
             need(abs(c) < 2**100, 'Limit')
 
+    def at_once(self, rows: list[Row]) -> list[Choices]:
+        """A state's rows, up to 256 together; or 16, where less than a sixteenth of the fields would be taken."""
+        found = sorted(rows, key=lambda row: (row[2].parameters, row[1]))
+        parts = groupby(enumerate(found), lambda it: (it[0] // 256, it[1][2].parameters))
+        many = [Choices([row for _, row in part], self) for _, part in parts]
+        few = [Choices(it.rows[i : i + 16], self) for it in many if not it.pays for i in range(0, len(it.rows), 16)]
+        return [them for them in many if them.pays] + few
+
     def test_rows(self) -> None:
         """Over the whole region each row's probabilities sum to 1 and none of them is below 0."""
         greatest = max([self.grid] + [abs(end) for ends in self.box for end in ends])
-        known: Products = {}
         for shape in self.shapes.values():  # by the first row that has it
             s, a, targets = shape.first
             self.text.place = f'state {s} choice {a}: '
@@ -223,49 +255,48 @@ class Report:
                 need(sums[m] == (0 if m else self.common), f'set {m} sums to {sums[m]}')
             need(g <= 4, f'{g} parameters')
             need(size * greatest**g * self.one < 2**126, 'too wide')
-            for target, weights in zip(targets, zip(*shape.corners(self.box, self.grid, known))):
+            for target, weights in zip(targets, zip(*shape.corners(self.leaf, self.grid, self.known))):
                 for corner, weight in enumerate(weights):
                     need(weight >= 0, f'target {target} at corner {corner} has weight {weight}')
 
-    def tests(self) -> dict[bytes, Callable[[bytes, Box, str], None]]:
+    def tests(self) -> dict[bytes, Callable[[bytes, str], None]]:
         """The test of each kind of decided leaf."""
-        of_forms: Dict[bytes, Dict[bytes, Callable[[bytes, Box, str], None]]] = {
-            REPORT: {b'accept': self.test_above, b'reject': self.test_below},
-            BOUNDED: {b'accept': self.test_within, b'reject': self.test_within},
-            PROPERTY: {b'holds': self.test_formula, b'fails': self.test_formula},
-            COST: {b'accept': self.test_above},
-        }
-        return of_forms[self.form]
+        if self.form == PROPERTY:
+            return {b'holds': self.test_formula, b'fails': self.test_formula}
+        if self.form == BOUNDED:
+            return {b'accept': self.test_within, b'reject': self.test_within}
+        return {b'accept': self.test_above, **({} if self.form == COST else {b'reject': self.test_below})}
 
-    def corners_in(self, box: Box) -> Corners:
-        """For each shape what stands for 1 in its rows, and its corners in a rectangle."""
-        known: Products = {}
-        wholes = [self.common * self.grid**g for g in range(5)]
-        return {it: (wholes[len(it.parameters)], it.corners(box, self.grid, known)) for it in self.shapes.values()}
-
-    def rows_of(self, s: int, picks: Marks) -> list[tuple[int, Row]]:
-        """The rows of a state that count: that of its pick, where there are picks, else each."""
-        rows = self.states[s]
-        return list(enumerate(rows)) if picks is None else [] if picks[s] == NONE else [(picks[s], rows[picks[s]])]
-
-    def test_above(self, key: bytes, box: Box, place: str, has_picks: bool = False) -> None:
+    def test_above(self, key: bytes, place: str, has_picks: bool = False) -> None:
         """No number is below its price and the mean for a choice that counts, and the initial state's is low enough."""
-        x, picks = self.read_values(key), self.read_picks() if has_picks else None
-        corners, self.text.place = self.corners_in(box), place
-        left = [n if s in self.goals else n - price for s, (n, price) in enumerate(zip(x, self.prices))]
-        self.test_means(x, left, picks, corners, True)
+        x, picks = self.read_values(key), self.read_marks(b'choice', self.ends) if has_picks else None
+        need(all((pick == NONE) == (s in self.goals) for s, pick in enumerate(picks or [])))
+        self.text.place = place
+        self.test_means(x, list(map(sub, x, self.prices)), picks, -1)
         self.test_bound(x, True)
 
-    def test_means(self, x: list[int], z: list[int], picks: Marks, corners: Corners, is_upper: bool) -> None:
-        """Each number in z is at least the mean of the targets' in x, for each choice that counts; or else at most."""
-        for s in range(self.size):
-            need(s not in self.goals or z[s] == (0 if self.form == COST else self.one), f'goal state {s} value {z[s]}')
-            for a, (targets, shape) in [] if s in self.goals else self.rows_of(s, picks):
-                (whole, at_corners), values = corners[shape], [x[target] for target in targets]
-                for corner, weights in enumerate(at_corners):
-                    mean, own = sum(map(mul, weights, values)), z[s] * whole
-                    if mean > own if is_upper else own > mean:
-                        raise Fault(f'state {s} choice {a} corner {corner}: {max(mean, own)} > {min(mean, own)}')
+    def test_means(self, x: list[int], z: list[int], picks: Marks, sign: int, ranks: Marks = None, e: int = 0) -> None:
+        """Each number in z is at most the mean of the targets' in x, for each choice that counts; or at least, if the
+        sign is -1. With ranks at least 2^-e of the weight leads to lower ones."""
+        levels, goal = ranks or self.ranks, 0 if self.form == COST else self.one  # without ranks: 0 for goal states
+        for s, (rows, own, rank) in enumerate(zip(self.states, z, levels)):
+            if rank in (0, NONE):
+                need(own == (0 if rank else goal), f'{"unranked" if rank else "goal"} state {s} value {own}')
+                continue
+            if picks is None and s in self.many and own >= 0:
+                tests: List[Tuple[int, int, int, Callable[[int], int]]] = [(sign, own, 0, x.__getitem__)]
+                tests += [(1, 1, e, lambda target: levels[target] < rank)] if ranks else []
+                if all(them.hold(*test, self.leaf) for test in tests for them in self.many[s]):
+                    continue
+            for a, targets, shape in rows if picks is None else [rows[picks[s]]]:
+                whole, values = self.wholes[len(shape.parameters)], [x[target] for target in targets]
+                right, lower = own * whole, [levels[target] < rank for target in targets] if ranks else []
+                for corner, weights in enumerate(shape.corners(self.leaf, self.grid, self.known)):
+                    mean, down = sum(map(mul, weights, values)), sum(map(mul, weights, lower)) if ranks else whole
+                    if mean > right if sign < 0 else right > mean:
+                        raise Fault(f'state {s} choice {a} corner {corner}: {max(mean, right)} > {min(mean, right)}')
+                    if down << e < whole:
+                        raise Fault(f'state {s} choice {a} corner {corner}: weight {down} times 2^{e} < {whole}')
 
     def test_bound(self, x: list[int], is_low: bool) -> None:
         """The initial state's number lies on its side of the bound, which itself is low for `<=` and `>`, else high."""
@@ -273,56 +304,44 @@ class Report:
         low, high, found = ('<=', '>', left <= right) if self.op in (b'<=', b'>') else ('<', '>=', left < right)
         need(found == is_low, f'{"budget" if self.form == COST else "bound"}: {left} {high if is_low else low} {right}')
 
-    def test_below(self, key: bytes, box: Box, place: str, has_picks: bool = True) -> None:
+    def test_below(self, key: bytes, place: str, has_picks: bool = True) -> None:
         """No number is above the mean for a choice that counts, and enough weight of each leads to lower ranks."""
-        (e, y, picks, ranks), corners, self.text.place = self.read_lower(key, has_picks), self.corners_in(box), place
+        line, words = self.text.line, self.text.take(key)
+        need(len(words) == 8 and words[::2] == [b'e', b'k', b'm', b'b'])
+        (e, k, m), (b, one) = numbers(words[1:6:2], 3), pair(words[7], b'/')
+        within(e, 0, 126), within(k, 1, 65536)
+        y, picks = self.read_values(b'y'), self.read_marks(b'choice', self.ends) if has_picks else None
+        ranks, self.text.place = self.read_marks(b'rank', [k + 1] * self.size), f'line {line}: '
+        need(m == e * k and b == y[self.init] and one == self.one)
         for s, rank in enumerate(ranks):
-            need(rank > 0 or y[s] == self.one, f'goal state {s} value {y[s]}')
-            need(rank < NONE or y[s] == 0, f'unranked state {s} value {y[s]}')
-            for a, (targets, shape) in self.rows_of(s, picks) if 0 < rank < NONE else []:
-                (whole, at_corners), values = corners[shape], [y[target] for target in targets]
-                lower = [ranks[target] < rank for target in targets]
-                for corner, weights in enumerate(at_corners):
-                    mean, down = sum(map(mul, weights, values)), sum(map(mul, weights, lower))
-                    if y[s] * whole > mean:
-                        raise Fault(f'state {s} choice {a} corner {corner}: {y[s] * whole} > {mean}')
-                    if down * 2**e < whole:
-                        raise Fault(f'state {s} choice {a} corner {corner}: weight {down} times 2^{e} < {whole}')
+            need((rank == 0) == (s in self.goals) and (picks is None or (picks[s] == NONE) == (rank in (0, NONE))))
+        self.text.place = place
+        self.test_means(y, y, picks, 1, ranks, e)
         self.test_bound(y, False)
 
-    def test_formula(self, kind: bytes, box: Box, place: str) -> None:
+    def test_formula(self, kind: bytes, place: str) -> None:
         """Of `property`: `<=` and `<` ask of the scheduler that reaches the most, the others of that of the least."""
         need(self.text.take(kind) == [])
-        if (kind == b'holds') == (self.op in (b'<=', b'<')):
-            self.test_above(b'x', box, place, has_picks=kind == b'fails')
-        else:
-            self.test_below(b'lower', box, place, has_picks=kind == b'fails')
+        is_above = (kind == b'holds') == (self.op in (b'<=', b'<'))
+        (self.test_above if is_above else self.test_below)(b'x' if is_above else b'lower', place, kind == b'fails')
 
-    def test_within(self, kind: bytes, box: Box, place: str) -> None:
+    def test_within(self, kind: bytes, place: str) -> None:
         """Of `bounded`: a vector for each number of steps, from that of no step: 1 on goal states and 0 elsewhere."""
-        vectors, picks = self.read_accept_within() if kind == b'accept' else self.read_reject_within()
-        corners = self.corners_in(box)
+        line, words, is_low = self.text.line, self.text.take(kind), kind == b'accept'
+        need(words[:1] == ([] if is_low else [b'b']))
+        b, z = (0, 0) if is_low else pair(b' '.join(words[1:]), b'/')
+        vectors, picks = [[self.one * (1 - rank) for rank in self.ranks]], []  # type: List[List[int]], List[Marks]
         for n in self.steps:
-            self.text.place = f'{place}step {n} '
-            self.test_means(vectors[n - 1], vectors[n], picks[n - 1], corners, kind == b'accept')
-        self.text.place = place
-        self.test_bound(vectors[-1], kind == b'accept')
-
-    def read_accept_within(self) -> tuple[list[list[int]], list[Marks]]:
-        need(self.text.take(b'accept') == [])
-        return [self.start, *(self.read_values(b'x %d' % n) for n in self.steps)], [None] * len(self.steps)
-
-    def read_reject_within(self) -> tuple[list[list[int]], list[Marks]]:
-        """By the number of steps, the numbers of the states, from that of no step; and their choices, from one step."""
-        line, words = self.text.line, self.text.take(b'reject b')
-        (b, z), lower, picks = pair(b' '.join(words), b'/'), [self.start], []
-        for n in self.steps:
-            lower.append(self.read_values(b'y %d' % n))
-            picks.append(self.read_marks(b'choice %d' % n, [len(rows) for rows in self.states]))
+            vectors.append(self.read_values(b'%s %d' % (b'x' if is_low else b'y', n)))
+            picks.append(None if is_low else self.read_marks(b'choice %d' % n, self.ends))
         self.text.place = f'line {line}: '
-        need(b == lower[-1][self.init] and z == self.one)
-        need(all((mark == NONE) == (s in self.goals) for marks in picks for s, mark in enumerate(marks)))
-        return lower, [*picks]
+        need(is_low or b == vectors[-1][self.init] and z == self.one)
+        need(all((mark == NONE) == (s in self.goals) for marks in picks for s, mark in enumerate(marks or [])))
+        for n, marks in zip(self.steps, picks):
+            self.text.place = f'{place}step {n} '
+            self.test_means(vectors[n - 1], vectors[n], marks, -1 if is_low else 1)
+        self.text.place = place
+        self.test_bound(vectors[-1], is_low)
 
     def read_values(self, key: bytes) -> list[int]:
         values = numbers(self.text.take(key), self.size)
@@ -336,26 +355,6 @@ class Report:
         need(all(0 <= mark < end or word == b'-' for mark, end, word in zip(marks, ends, words)), 'Limit')
         return marks
 
-    def read_picks(self) -> list[int]:
-        """A choice of each state that is no goal state."""
-        picks = self.read_marks(b'choice', [len(rows) for rows in self.states])
-        need(all((pick == NONE) == (s in self.goals) for s, pick in enumerate(picks)))
-        return picks
-
-    def read_lower(self, key: bytes, has_picks: bool) -> tuple[int, list[int], list[int] | None, list[int]]:
-        """The number e; and for each state its number, its choice (None: there are no choices) and its rank."""
-        line, words = self.text.line, self.text.take(key)
-        need(len(words) == 8 and words[::2] == [b'e', b'k', b'm', b'b'])
-        (e, k, m), (b, z) = numbers(words[1:6:2], 3), pair(words[7], b'/')
-        within(e, 0, 126), within(k, 1, 65536)
-        y, ends = self.read_values(b'y'), [len(rows) for rows in self.states]
-        picks = self.read_marks(b'choice', ends) if has_picks else None
-        ranks, self.text.place = self.read_marks(b'rank', [k + 1] * self.size), f'line {line}: '
-        need(m == e * k and b == y[self.init] and z == self.one)
-        for s, rank in enumerate(ranks):
-            need((rank == 0) == (s in self.goals) and (picks is None or (picks[s] == NONE) == (rank in (0, NONE))))
-        return e, y, picks, ranks
-
 
 def leaves(report: Report) -> Iterator[tuple[bytes, Box, int]]:
     """Tests the nodes, and gives of each leaf its kind, its rectangle and how many splits lie above it."""
@@ -368,7 +367,8 @@ def leaves(report: Report) -> Iterator[tuple[bytes, Box, int]]:
             need(word in tests)
         node += 1
         if word in tests:
-            tests[word](word, box, place)
+            report.leaf, report.known = box, {}
+            tests[word](word, place)
         elif word == b'split':
             axis, text.place = text.single(word, 0, report.parameters - 1), place
             need(levels > 0, 'depth')
@@ -415,7 +415,7 @@ def main(words: list[str]) -> int:
             return tell(check(text), 0, 1)
     except Fault as fault:
         return tell(f'not sound: {text.place}{fault}', 1)
-    except TooLong:
+    except OverflowError:
         return tell('too long', 7)
     except OSError as fault:
         return tell(f'read fault: {fault}', 5)

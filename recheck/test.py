@@ -119,6 +119,22 @@ at 4;reject e 1 k 1 m 1 b 11/16;y 11 16 0;choice 0 - -;rank 1 0 -;'''.replace(
     b';', b'\n'
 )
 
+# A state with nine choices, whose rows recheck.py tests at once. Choice c goes on with c + 1 times p/20.
+NINE_ROWS = ''.join(f'row 0 {c} 2;to 1 1:{c + 1};to 2 0:20 1:-{c + 1};' for c in range(9))
+NINE = f'plift%s 1;kind mdp;parameters 1 p;common 20;states 3;init 0;goal 1 1;{NINE_ROWS}row 1 0 1;to 1 0:20;row 2 0 1;to 2 0:20;%s'
+NINE_BOX = 'precision 4;depth 0;grid 10;box 1 4'
+NINE_LOW = NINE % ('', f'bound 1/2;{NINE_BOX};accept 3 16 0;')
+NINE_STEPS = NINE % ('-bounded', f'bound 1/2;steps 1;{NINE_BOX};accept;x 1 3 16 0;')
+NINE_COSTS = NINE % ('-cost', f'cost 1/1 0/1 0/1;cap 4;budget 2/1;{NINE_BOX};accept 4 0 0;')
+# One more choice, which goes on with q/2; each goes on with at least 1/64.
+NINE_LEAST = NINE.replace('1 p', '2 p q').replace('row 1 0 1', 'row 0 9 2;to 1 2:10;to 2 0:20 2:-10;row 1 0 1') % (
+    '-property',
+    'property >= 1/64;precision 6;depth 0;grid 20;box 12 16 10 20;holds;lower e 6 k 1 m 6 b 1/64;y 1 64 0;rank 1 0 -;',
+)
+STEPS['NINE-STEPS'] = NINE_STEPS.replace(';', '\n').encode()
+COSTS['NINE-COSTS'] = NINE_COSTS.replace(';', '\n').encode()
+PROPERTIES['NINE-LEAST'] = NINE_LEAST.replace(';', '\n').encode()
+
 
 def ranged(text: bytes) -> bytes:
     """The same tree in version 2, whose leaves have in turn the precision, one more and two more: each number is
@@ -144,7 +160,7 @@ def ranged(text: bytes) -> bytes:
 
 
 RANGED = {f'{name}-RANGED': ranged(text) for name, text in EXAMPLES.items()}
-REPORTS = {'LOW': LOW, 'BACK': BACK, 'RANGE': RANGE, **RANGED, **EXAMPLES}
+REPORTS = {'LOW': LOW, 'BACK': BACK, 'RANGE': RANGE, 'NINE': NINE_LOW.replace(';', '\n').encode(), **RANGED, **EXAMPLES}
 
 # Each row: a report; changes, each a line's number and what stands there in its place (`;` between two lines, `-`
 # for none), with ` / ` between two; and what is said, of a report that isn't sound without `not sound: `.
@@ -399,6 +415,15 @@ COIN | 23=rank 1 0 -;unknown | rest
 BACK | | node 0 state 0 choice 0 corner 0: weight 0 times 2^1 < 2
 BACK | 17=box 1 2 | sound accept 0 reject 1 unknown 0
 
+NINE | | sound accept 1 reject 0 unknown 0
+NINE | 44=accept 2 16 0 | node 0 state 0 choice 6 corner 1: 448 > 400
+NINE | 44=accept 0 16 0 | node 0 state 0 choice 0 corner 0: 16 > 0
+NINE | 44=accept 3 16 16 | node 0 state 0 choice 0 corner 0: 3200 > 600
+NINE | 44=accept 3 15 0 | node 0 goal state 1 value 15
+NINE | 35=row 0 9 1;to 1 0:20;row 1 0 1 | node 0 state 0 choice 9 corner 0: 320 > 60
+NINE | 35=row 0 9 1;to 0 0:20;row 1 0 1 | sound accept 1 reject 0 unknown 0
+NINE | 15=to 1 1:20 / 16=to 2 0:20 1:-20 | node 0 state 0 choice 2 corner 1: 1280 > 600
+
 RETRY-TREE | 39=accept 8 41 205 0 1024 | node 4 state 0 choice 0 corner 1: 1312 > 1280
 RETRY-TREE | 39=accept 9 41 204 0 1024 | node 4 state 2 choice 0 corner 1: 32768 > 32640
 RETRY-TREE | 39=accept 26 41 205 0 1024 | node 4 bound: 1040 > 1024
@@ -444,6 +469,8 @@ WITHIN | 23=x 1 4 15 0 | node 0 step 1 goal state 1 value 15
 WITHIN | 24=x 2 5 16 0 | node 0 step 2 state 0 choice 0 corner 1: 52 > 50
 WITHIN | 24=x 2 7 16 0 | node 0 bound: 56 > 48
 WITHIN | 11=to 2 0:1 1:-2 | state 0 choice 0: set 1 sums to -1
+NINE-STEPS | | sound accept 1 reject 0 unknown 0
+NINE-STEPS | 46=x 1 2 16 0 | node 0 step 1 state 0 choice 6 corner 1: 448 > 400
 ABOVE | | sound accept 0 reject 1 unknown 0
 ABOVE | 22=reject b 1/16 | line 22: Syntax
 ABOVE | 22=reject b 2/8 | line 22: Syntax
@@ -584,6 +611,14 @@ ONE | 25=choice 1 - 0;unknown | rest
 ONE-ABOVE | | sound holds 0 fails 1 unknown 0
 ONE-ABOVE | 18=property > 3/8 | node 0 bound: 56 > 48
 
+NINE-LEAST | | sound holds 1 fails 0 unknown 0
+NINE-LEAST | 48=lower e 6 k 1 m 6 b 2/64 / 49=y 2 64 0 | node 0 state 0 choice 0 corner 0: 800 > 768
+NINE-LEAST | 48=lower e 5 k 1 m 5 b 1/64 | node 0 state 0 choice 0 corner 0: weight 12 times 2^5 < 400
+NINE-LEAST | 23=row 0 5 1 / 24=to 2 0:20 / 25=- | node 0 state 0 choice 5 corner 0: 20 > 0
+NINE-LEAST | 17=row 0 3 1 / 18=to 0 0:20 / 19=- | node 0 state 0 choice 3 corner 0: weight 0 times 2^6 < 20
+NINE-LEAST | 46=box 12 16 0 20 | node 0 state 0 choice 9 corner 0: 400 > 0
+NINE-LEAST | 36=to 1 2:1 / 37=to 2 0:20 2:-1 | sound holds 1 fails 0 unknown 0
+
 HALVES | | sound holds 0 fails 1 unknown 1
 HALVES | 23=unknown | node 0 depth
 HALVES | 24=split 0 | node 1 depth
@@ -667,6 +702,10 @@ ROUNDED | 23=accept 12 0 0 | node 0 state 0 choice 0 corner 0: 60 > 50
 ROUNDED | 23=accept 13 0 0 | node 0 state 0 choice 0 corner 0: 65 > 60
 ROUNDED | 23=accept 13 0 0 / 16=cost 3/2 1/1 0/1 | sound accept 1 unknown 0
 ROUNDED | 18=budget 10/3 | node 0 budget: 168 > 160
+NINE-COSTS | | sound accept 1 unknown 0
+NINE-COSTS | 46=accept 3 0 0 | node 0 state 0 choice 0 corner 0: 0 > -200
+NINE-COSTS | 46=accept 4 0 1 | node 0 state 0 choice 0 corner 0: 199 > 0
+NINE-COSTS | 46=accept 5 0 1 | sound accept 1 unknown 0
 WAYS | | sound accept 2 unknown 0
 WAYS | 17=cost 1/3 7/2 1/2 | sound accept 2 unknown 0
 WAYS | 26=unknown | sound accept 1 unknown 1

@@ -45,8 +45,9 @@ class Long(unittest.TestCase):
         self.judged(hostile.KINDS["long-accept"].make(), "not sound: line 20: Syntax\n")
 
     def test_rows_times_leaves(self) -> None:
-        """2,500 rows that are weighed at sixteen corners for each of 8 leaves."""
+        """2,500 rows that are weighed at sixteen corners for each of 8 and of 64 leaves."""
         self.judged(hostile.rows_by_leaves(3), "sound accept 8 reject 0 unknown 0\n")
+        self.judged(hostile.rows_by_leaves(6), "sound accept 64 reject 0 unknown 0\n")
 
     def test_each_command_has_a_kind(self) -> None:
         """The hostile inputs are for every command of the program, and for recheck.py."""
