@@ -78,7 +78,7 @@ class Text:
         """The line that is due, as far as a line may go; nothing where nothing is left."""
         self.held = self.held or self.source.readline(MOST_LINE + 1)
         if self.taken + len(self.held) > MOST_BYTES:
-            raise OverflowError
+            raise OverflowError('more bytes than a report may have')
         return self.held
 
     def due(self) -> list[bytes]:
