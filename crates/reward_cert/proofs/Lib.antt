@@ -1,0 +1,12 @@
+pub mod Steps
+pub mod Charging
+pub mod Bounding
+pub mod Covering
+pub mod Valuations
+pub mod ReachingLower
+pub mod CollectedUpper
+pub mod Pushing
+pub mod Powers
+pub mod Leading
+pub mod ReachingUpper
+pub mod CollectedLower
