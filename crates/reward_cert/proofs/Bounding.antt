@@ -1,7 +1,7 @@
 -- What a scheduler's value is at least within n steps, by induction on the steps: numbers of states that each row keeps up bound it.
-use Rattle.std.proofs.Common.{◌≡◌, ℕ, zero, suc, ◌<◌, Bool, true, false, cond, List, [], ◌∷◌, ℤ, pos, ◌+ℤ◌, ◌-ℤ◌, ◌*ℤ◌, ◌≤ℤ◌, refl, sym, ap, ◌∙◌, arith}
+use Rattle.std.proofs.Common.{◌≡◌, ℕ, zero, suc, Bool, true, false, List, [], ◌∷◌, ℤ, pos, ◌+ℤ◌, ◌*ℤ◌, ◌≤ℤ◌, refl, ap, arith}
 use Rattle.lift_poly.proofs.Ring.{linear, mul-comm, mul-assoc, add-mul, zero-mul, mul-le, mul-nonneg, one-mul, as_diff, diffs, diff-same}
-use Rattle.lift_model.specs.Process.{Process, Move, power, weighted_sum}
+use Rattle.lift_model.specs.Process.{Move, power, weighted_sum}
 use Rattle.reward_cert.proofs.Steps.{either_way, AreClosed}
 
 pub sum-times : (k : ℤ) (f : ℕ → ℤ) (row : List Move) → weighted_sum (λ t. f t *ℤ k) row ≡ weighted_sum f row *ℤ k

@@ -1,19 +1,18 @@
 -- Costs of states and of actions.
-use Rattle.std.proofs.Common.{◌≡◌, ℕ, zero, suc, ◌+◌, ◌*◌, ◌/◌, ◌<◌, ◌≤◌, Bool, true, false, cond, List, [], ◌∷◌, ℤ, pos, ◌+ℤ◌, ◌*ℤ◌, refl, sym, ap, ◌∙◌, arith, ◌⊎◌, inl, inr, IsTrue, mul_comm, mul_assoc, mul-le-mul_left}
+use Rattle.std.proofs.Common.{◌≡◌, ℕ, zero, suc, ◌+◌, ◌*◌, ◌/◌, false, List, [], ◌∷◌, ℤ, pos, ◌+ℤ◌, ◌*ℤ◌, refl, sym, ap, ◌∙◌, arith, ◌⊎◌, inl, inr, IsTrue, mul_comm, mul_assoc}
 use Rattle.std.specs.Int.{◌∣◌}
 use Rattle.std.proofs.Math.Nat.{div-mul_cancel}
-use Rattle.lift_poly.proofs.Ring.{linear, mul-comm, mul-assoc, mul-add, zero-mul, as_diff, pos_diff, diffs, diff-same}
+use Rattle.lift_poly.proofs.Ring.{linear, mul-add, zero-mul, as_diff, pos_diff, diffs, diff-same}
 use Rattle.lift_frac.specs.Gcd.{gcd}
 use Rattle.lift_frac.specs.Laws.{GcdIsGreatest}
-use Rattle.lift_costs.specs.Costs.{CostData}
-use Rattle.lift_model.specs.Process.{Process, Move, power, weighted_sum}
+use Rattle.lift_model.specs.Process.{Move, power}
 use Rattle.lift_model.specs.Plan.{Plan, Parts, Plans, MovesFit, PartFits, PartsFit, PlanFits, Fits}
 use Rattle.lift_model.specs.Plan.Plan.{stop, toss}
 use Rattle.lift_model.specs.Plan.Parts.{no_parts, part}
 use Rattle.lift_model.specs.Plan.Plans.{no_plans, plan}
 use Rattle.lift_model.specs.Reach.{moves_reach, parts_reach, plan_reach}
 use Rattle.reward_cert.specs.Expected.{parts_cost, plan_cost, expected_cost}
-use Rattle.reward_cert.specs.Laws.{SumIsExact, IsCostOfStates, CostOfStatesIsExpected}
+use Rattle.reward_cert.specs.Laws.{SumIsExact, CostOfStatesIsExpected}
 use Rattle.reward_cert.proofs.Steps.{either_way, no_goal}
 
 crossed : (n d g : ℕ) → g ∣ n → g ∣ d → n / g * d ≡ n * (d / g)

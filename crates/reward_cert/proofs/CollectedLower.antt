@@ -1,9 +1,9 @@
 -- What certificates from below say of what is collected.
-use Rattle.std.proofs.Common.{◌≡◌, ℕ, zero, suc, ◌+◌, ◌-◌, ◌*◌, ◌<◌, ◌≤◌, ◌^◌, Bool, true, false, cond, List, [], ◌∷◌, length, ℤ, pos, negsuc, ◌+ℤ◌, ◌-ℤ◌, ◌*ℤ◌, ◌≤ℤ◌, refl, sym, ap, subst, ◌∙◌, arith, ◌⊎◌, inl, inr, ⊎_elim}
+use Rattle.std.proofs.Common.{◌≡◌, ℕ, zero, suc, ◌+◌, ◌-◌, ◌*◌, ◌<◌, ◌≤◌, ◌^◌, true, false, List, [], ◌∷◌, length, ℤ, pos, ◌-ℤ◌, ◌*ℤ◌, ◌≤ℤ◌, refl, sym, ap, subst, ◌∙◌, arith, ◌⊎◌, inl, inr, ⊎_elim}
 use Rattle.std.proofs.lemmas.Nat.{pow_pos}
 use Rattle.lift_poly.specs.Polynomial.{Valuation}
 use Rattle.lift_poly.proofs.Ring.{linear, mul-comm, mul-zero, zero-mul, one-mul, mul-le, mul-nonneg, as_diff, diffs, diff-same}
-use Rattle.lift_model.specs.Process.{Process, Move, power, weighted_sum}
+use Rattle.lift_model.specs.Process.{Process, power, weighted_sum}
 use Rattle.lift_model.specs.Plan.{Plan, Fits}
 use Rattle.lift_model.specs.Reach.{reach}
 use Rattle.lift_model.specs.Memoryless.{memoryless_reach}
@@ -12,26 +12,25 @@ use Rattle.lift_model.specs.Model.{is_goal, choices, row_at, moves_at, process_a
 use Rattle.lift_grid.specs.Rectangle.{Spans, Inside}
 use Rattle.lift_grid.specs.Tree.{RejectData}
 use Rattle.lift_frac.specs.Laws.{LcmIsMultiple}
-use Rattle.lift_cert.specs.Reached.{Follows}
 use Rattle.corner_lift.specs.Case.{CaseData, IsCase, IsInside, number}
-use Rattle.corner_lift.specs.Certificate.{AreNumbers, MeansAtLeast, mark, unmarked, ranked_below}
+use Rattle.corner_lift.specs.Certificate.{AreNumbers, mark, unmarked}
 use Rattle.corner_lift.specs.Laws.{NumbersAreInRange, WeightsInside, MeansAtLeastInside}
 use Rattle.reward_cert.specs.Charges.{RewardData, AreRewards, charge}
 use Rattle.reward_cert.specs.Expected.{expected_cost, memoryless_cost}
 use Rattle.reward_cert.specs.Rounded.{reward_down, IsPaying}
-use Rattle.reward_cert.specs.Rows.{IsBacked, LeadsOn}
+use Rattle.reward_cert.specs.Rows.{LeadsOn}
 use Rattle.reward_cert.specs.Collected.{ArePayingRanks, IsPushed}
 use Rattle.reward_cert.specs.Said.{unit}
 use Rattle.reward_cert.specs.Laws.{CollectedLowerAllBounds, CollectedLowerOneBounds}
-use Rattle.reward_cert.proofs.Steps.{either_way, plan_value, choice_value}
-use Rattle.reward_cert.proofs.Bounding.{Growing, grown_power, power-least, value-least, sum-times}
+use Rattle.reward_cert.proofs.Steps.{plan_value, choice_value}
+use Rattle.reward_cert.proofs.Bounding.{grown_power, value-least, sum-times}
 use Rattle.reward_cert.proofs.Covering.{down_is_covered}
 use Rattle.reward_cert.proofs.Pushing.{IsPushing, reaches}
 use Rattle.reward_cert.proofs.Leading.{leads_inside}
 use Rattle.reward_cert.proofs.Powers.{all_parts, all_left}
 use Rattle.reward_cert.proofs.Valuations.{in_or_past, row_of, plan_stepping, choice_stepping, grown_plain, total-positive, weights-least, row_weights, row_is, choice_count}
 
-said : (y u all t h top cost reached : ℤ) → (((y *ℤ u) *ℤ (t -ℤ h)) *ℤ all) ≤ℤ ((cost *ℤ top -ℤ reached *ℤ pos 0) *ℤ t) → (y *ℤ (u *ℤ (all *ℤ (t -ℤ h)))) ≤ℤ (top *ℤ (t *ℤ cost))
+pub said : (y u all t h top cost reached : ℤ) → (((y *ℤ u) *ℤ (t -ℤ h)) *ℤ all) ≤ℤ ((cost *ℤ top -ℤ reached *ℤ pos 0) *ℤ t) → (y *ℤ (u *ℤ (all *ℤ (t -ℤ h)))) ≤ℤ (top *ℤ (t *ℤ cost))
 said y u all t h top cost reached le = omega (arith, linear, le, left, right)
   where
     left : ((y *ℤ u) *ℤ (t -ℤ h)) *ℤ all ≡ y *ℤ (u *ℤ (all *ℤ (t -ℤ h)))
@@ -156,7 +155,7 @@ module _ (multiple : LcmIsMultiple) (nonnegative : WeightedSumsAreNotNegative) (
       j s tt tt
 
 -- as it is said
-in_words : (w e h j : ℕ) (y u all cost reached : ℤ) → let m = power (pos (2 ^ e)) h *ℤ pos (2 ^ w) in
+pub in_words : (w e h j : ℕ) (y u all cost reached : ℤ) → let m = power (pos (2 ^ e)) h *ℤ pos (2 ^ w) in
     (((y *ℤ u) *ℤ (power m j -ℤ power (m -ℤ pos 1) j)) *ℤ all) ≤ℤ ((cost *ℤ pos (2 ^ w) -ℤ reached *ℤ pos 0) *ℤ power m j)
     → (y *ℤ (u *ℤ (all *ℤ (pos (2 ^ ((w + e * h) * j)) -ℤ pos ((2 ^ (w + e * h) - 1) ^ j))))) ≤ℤ (pos (2 ^ w) *ℤ (pos (2 ^ ((w + e * h) * j)) *ℤ cost))
 in_words w e h j y u all cost reached le =
@@ -177,3 +176,9 @@ collected_lower_one_bounds multiple nonnegative rise numbers weights means k spa
     in_words k.w c.e c.k j (number c.numbers s) (unit r) (power process.total (c.k * j)) (memoryless_cost process (charge r.costs) choice (c.k * j) s) (memoryless_reach process choice (c.k * j) s)
     (for_one multiple nonnegative rise numbers weights means k spans r c is within are lower.numbers lower.ranks v inside choice
     (λ s near. subst (λ a. IsPushed k spans r c s a) (sym (follows s (lower.picked s near))) (lower.rows s near)) j s)
+
+-- a ranked state is one of the model's
+pub ranked_inside : (ranks : List ℕ) (s : ℕ) → mark ranks s < unmarked → s < length ranks
+ranked_inside [] s lt = absurd (omega (arith, lt))
+ranked_inside (rank ∷ ranks) zero lt = omega arith
+ranked_inside (rank ∷ ranks) (suc s) lt = omega (arith, ranked_inside ranks s lt)

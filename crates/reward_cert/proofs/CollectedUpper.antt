@@ -1,5 +1,5 @@
 -- What certificates from above say of what is collected.
-use Rattle.std.proofs.Common.{◌≡◌, ℕ, zero, suc, ◌<◌, ◌≤◌, ◌^◌, Bool, true, false, cond, List, [], ◌∷◌, length, get_or, ℤ, pos, negsuc, ◌+ℤ◌, ◌-ℤ◌, ◌*ℤ◌, neg_ℤ, ◌≤ℤ◌, int_le, refl, sym, ap, subst, ◌∙◌, arith, ◌⊎◌, ⊎_elim}
+use Rattle.std.proofs.Common.{◌≡◌, ℕ, zero, suc, ◌<◌, ◌≤◌, ◌^◌, Bool, true, false, cond, List, [], ◌∷◌, length, get_or, ℤ, pos, negsuc, ◌+ℤ◌, ◌-ℤ◌, ◌*ℤ◌, neg_ℤ, ◌≤ℤ◌, int_le, refl, sym, ap, subst, arith}
 use Rattle.lift_poly.specs.Polynomial.{Valuation}
 use Rattle.lift_poly.proofs.Ring.{linear, mul-comm, mul-le, mul-nonneg, mul-zero, zero-mul, one-mul, as_diff, diffs, diff-same, le_from_test}
 use Rattle.lift_model.specs.Process.{Process, Move, power, weighted_sum}
@@ -7,17 +7,15 @@ use Rattle.lift_model.specs.Plan.{Plan, Fits}
 use Rattle.lift_model.specs.Reach.{reach}
 use Rattle.lift_model.specs.Memoryless.{memoryless_reach}
 use Rattle.lift_model.specs.Laws.{AreNonNegative}
-use Rattle.lift_model.specs.Model.{is_goal, choices, row_at, moves_at, process_at}
+use Rattle.lift_model.specs.Model.{is_goal, choices, row_at, process_at}
 use Rattle.lift_grid.specs.Rectangle.{Spans, Inside}
 use Rattle.lift_frac.specs.Laws.{LcmIsMultiple}
-use Rattle.lift_cert.specs.Reached.{Follows}
 use Rattle.corner_lift.specs.Case.{CaseData, IsCase, IsInside, number}
-use Rattle.corner_lift.specs.Certificate.{mark}
 use Rattle.corner_lift.specs.Laws.{WeightsInside, SumsAreTotals, MeansAtMostInside, MeansAtLeastInside}
 use Rattle.reward_cert.specs.Charges.{RewardData, AreRewards, charge}
 use Rattle.reward_cert.specs.Expected.{expected_cost, memoryless_cost}
 use Rattle.reward_cert.specs.Rounded.{reward_up}
-use Rattle.reward_cert.specs.Rows.{has_number, numbered, no_number, IsCovered}
+use Rattle.reward_cert.specs.Rows.{has_number, numbered, IsCovered}
 use Rattle.reward_cert.specs.Said.{unit}
 use Rattle.reward_cert.specs.Laws.{CollectedUpperAllBounds, CollectedUpperOneBounds}
 use Rattle.reward_cert.proofs.Steps.{either_way, AreClosed, plan_value, choice_value}
@@ -71,7 +69,7 @@ row_keeps u h t d n z zs moves u_least n_least mean pays =
     right : (h *ℤ neg_ℤ t) *ℤ n ≡ neg_ℤ (n *ℤ (h *ℤ t))
     right = rw (as_diff h, as_diff t, as_diff n) (simp diffs (diff-same _ _ _ _ (omega arith)))
 
-said : (z u k t cost reached : ℤ) → (neg_ℤ (z *ℤ u) *ℤ k) ≤ℤ (cost *ℤ neg_ℤ t -ℤ reached *ℤ pos 0) → (cost *ℤ t) ≤ℤ (z *ℤ (u *ℤ k))
+pub said : (z u k t cost reached : ℤ) → (neg_ℤ (z *ℤ u) *ℤ k) ≤ℤ (cost *ℤ neg_ℤ t -ℤ reached *ℤ pos 0) → (cost *ℤ t) ≤ℤ (z *ℤ (u *ℤ k))
 said z u k t cost reached le = omega (arith, linear, le, mul-zero reached, left, right)
   where
     left : neg_ℤ (z *ℤ u) *ℤ k ≡ neg_ℤ (z *ℤ (u *ℤ k))

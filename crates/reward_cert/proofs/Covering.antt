@@ -1,5 +1,5 @@
 -- Charges over the common denominator beside rewards in parts of the cap.
-use Rattle.std.proofs.Common.{◌≡◌, ℕ, zero, suc, ◌+◌, ◌*◌, ◌/◌, ◌^◌, ◌<◌, ◌≤◌, List, [], ◌∷◌, length, get_or, fold, All, ℤ, pos, ◌*ℤ◌, ◌≤ℤ◌, refl, sym, ap, subst, ◌∙◌, arith, ◌⊎◌, ⊎_elim, mul_comm, mul_assoc, mul-le-mul_left, mul-le-mul_right}
+use Rattle.std.proofs.Common.{◌≡◌, ℕ, zero, suc, ◌*◌, ◌/◌, ◌^◌, ◌<◌, ◌≤◌, List, [], ◌∷◌, length, get_or, fold, All, ℤ, pos, ◌*ℤ◌, ◌≤ℤ◌, refl, sym, ap, subst, ◌∙◌, arith, ◌⊎◌, ⊎_elim, mul_comm, mul_assoc, mul-le-mul_left, mul-le-mul_right}
 use Rattle.std.specs.Int.{div_ceil, ◌∣◌}
 use Rattle.std.proofs.Math.Nat.{div-mul_cancel, div-mul-le_self, le_of_mul-le-mul_left, one-dvd}
 use Rattle.std.proofs.lemmas.Grind.{div_ceil_times}
@@ -9,7 +9,7 @@ use Rattle.std.proofs.lemmas.Nat.Gcd.{dvd_trans}
 use Rattle.lift_poly.proofs.Ring.{linear}
 use Rattle.lift_frac.specs.Gcd.{lcm}
 use Rattle.lift_frac.specs.Laws.{LcmIsMultiple}
-use Rattle.lift_costs.specs.Costs.{CostData, IsCost, no_cost, cost_of}
+use Rattle.lift_costs.specs.Costs.{CostData, IsCost, no_cost}
 use Rattle.reward_cert.specs.Charges.{RewardData, AreRewards, choice_cost, common, charge}
 use Rattle.reward_cert.specs.Rounded.{reward_up, reward_down}
 use Rattle.reward_cert.specs.Said.{unit}

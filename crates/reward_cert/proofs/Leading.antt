@@ -1,11 +1,11 @@
 -- Rows that lead to lower ranks, at a valuation; and values from 0 on.
-use Rattle.std.proofs.Common.{◌≡◌, ℕ, ◌<◌, ◌^◌, Bool, true, false, cond, List, length, ℤ, pos, ◌*ℤ◌, ◌-ℤ◌, ◌≤ℤ◌, refl, ap, arith}
+use Rattle.std.proofs.Common.{ℕ, ◌^◌, ℤ, pos, ◌*ℤ◌, ◌≤ℤ◌, refl, ap, arith}
 use Rattle.lift_poly.specs.Polynomial.{Valuation}
 use Rattle.lift_poly.proofs.Ring.{linear, one-mul}
 use Rattle.lift_grid.specs.Rectangle.{Spans, Inside}
 use Rattle.lift_grid.specs.Tree.{RejectData}
-use Rattle.lift_model.specs.Process.{Process, power, weighted_sum}
-use Rattle.lift_model.specs.Model.{support, choices, row_at, moves_at, process_at}
+use Rattle.lift_model.specs.Process.{weighted_sum}
+use Rattle.lift_model.specs.Model.{support, row_at, moves_at, process_at}
 use Rattle.corner_lift.specs.Corner.{corner, whole}
 use Rattle.corner_lift.specs.Case.{CaseData, IsCase, IsInside}
 use Rattle.corner_lift.specs.Certificate.{MeansAtLeast, mark, ranked_below}

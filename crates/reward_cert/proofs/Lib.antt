@@ -10,3 +10,8 @@ pub mod Powers
 pub mod Leading
 pub mod ReachingUpper
 pub mod CollectedLower
+pub mod Excluding
+pub mod Apart
+mod Samples
+pub mod Joining
+pub mod Meeting

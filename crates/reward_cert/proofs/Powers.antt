@@ -26,3 +26,12 @@ pub all_left : (w e k j : ℕ) → power (power (pos (2 ^ e)) k *ℤ pos (2 ^ w)
 all_left w e k j =
     let one : power (pos (2 ^ e)) k *ℤ pos (2 ^ w) -ℤ pos 1 ≡ pos (2 ^ (w + e * k) - 1) = ap (λ b. b -ℤ pos 1) (parts_are w e k) ∙ omega (arith, linear, pow_pos (w + e * k)) in
     ap (λ b. power b j) one ∙ power-pos_is (2 ^ (w + e * k) - 1) j
+
+-- as powers of one number
+pub flat : (m j : ℕ) → pos (2 ^ (m * j)) ≡ power (pos (2 ^ m)) j
+flat m j = ap pos (pow-times m j) ∙ sym (power-pos_is (2 ^ m) j)
+
+pub flat_less : (m j : ℕ) → pos ((2 ^ m - 1) ^ j) ≡ power (pos (2 ^ m) -ℤ pos 1) j
+flat_less m j =
+    let one : pos (2 ^ m - 1) ≡ pos (2 ^ m) -ℤ pos 1 = omega (arith, linear, pow_pos m) in
+    sym (power-pos_is (2 ^ m - 1) j) ∙ ap (λ b. power b j) one

@@ -1,10 +1,10 @@
 -- What a scheduler's value comes to in the end, by blocks of k steps, where each row of a ranked state keeps up the numbers, and gains a unit or leads to lower ranks.
-use Rattle.std.proofs.Common.{◌≡◌, ℕ, zero, suc, ◌+◌, ◌*◌, ◌<◌, ◌≤◌, Bool, true, false, List, [], ◌∷◌, ℤ, pos, ◌+ℤ◌, ◌-ℤ◌, ◌*ℤ◌, ◌≤ℤ◌, refl, sym, ap, subst, ◌∙◌, arith, nat_lt, ltb-true, ltb-false, ◌⊎◌, inl, inr, ⊎_elim}
-use Rattle.lift_poly.proofs.Ring.{linear, mul-comm, mul-assoc, mul-add, mul-zero, zero-mul, one-mul, mul-le, mul-nonneg, as_diff, pos_diff, diffs, diff-same}
-use Rattle.lift_model.specs.Process.{Process, Move, power, weighted_sum}
+use Rattle.std.proofs.Common.{◌≡◌, ℕ, zero, suc, ◌+◌, ◌*◌, ◌<◌, ◌≤◌, Bool, true, false, List, [], ◌∷◌, ℤ, pos, ◌+ℤ◌, ◌-ℤ◌, ◌*ℤ◌, ◌≤ℤ◌, refl, sym, ap, subst, ◌∙◌, arith, nat_lt, ltb-true, ltb-false, ◌⊎◌, ⊎_elim}
+use Rattle.lift_poly.proofs.Ring.{linear, mul-comm, mul-assoc, mul-add, mul-zero, zero-mul, one-mul, mul-le, mul-nonneg, as_diff, diffs, diff-same}
+use Rattle.lift_model.specs.Process.{Move, power, weighted_sum}
 use Rattle.lift_model.specs.Laws.{AreNonNegative, WeightedSumsAreNotNegative, WeightedSumsRise}
 use Rattle.corner_lift.specs.Certificate.{ranked_below}
-use Rattle.reward_cert.proofs.Steps.{either_way, AreClosed}
+use Rattle.reward_cert.proofs.Steps.{either_way}
 use Rattle.reward_cert.proofs.Bounding.{Stepping, Growing, sum-times, power-least}
 use Rattle.reward_cert.proofs.Valuations.{every, all_closed}
 

@@ -1,24 +1,22 @@
 -- What certificates from below say of the cost to reach the goal.
-use Rattle.std.proofs.Common.{◌≡◌, ℕ, zero, suc, ◌<◌, ◌≤◌, ◌^◌, Bool, true, false, cond, List, [], ◌∷◌, length, ℤ, pos, ◌+ℤ◌, ◌-ℤ◌, ◌*ℤ◌, ◌≤ℤ◌, refl, sym, ap, subst, ◌∙◌, arith, ◌⊎◌, ⊎_elim}
+use Rattle.std.proofs.Common.{◌≡◌, ℕ, suc, ◌<◌, ◌≤◌, ◌^◌, Bool, true, false, cond, List, [], ◌∷◌, length, ℤ, pos, ◌+ℤ◌, ◌-ℤ◌, ◌*ℤ◌, ◌≤ℤ◌, refl, sym, ap, subst, arith, ◌⊎◌, ⊎_elim}
 use Rattle.lift_poly.specs.Polynomial.{Valuation}
 use Rattle.lift_poly.proofs.Ring.{linear, mul-comm, mul-le, mul-nonneg, zero-mul, one-mul, as_diff, diffs, diff-same}
 use Rattle.lift_model.specs.Process.{Process, Move, power, weighted_sum}
 use Rattle.lift_model.specs.Plan.{Plan, Fits}
-use Rattle.lift_model.specs.Model.{is_goal, choices, row_at, moves_at, process_at}
+use Rattle.lift_model.specs.Model.{is_goal, choices, row_at, process_at}
 use Rattle.lift_grid.specs.Rectangle.{Spans, Inside}
 use Rattle.lift_frac.specs.Laws.{LcmIsMultiple}
-use Rattle.lift_cert.specs.Reached.{Follows}
 use Rattle.corner_lift.specs.Case.{CaseData, IsCase, IsInside, number}
-use Rattle.corner_lift.specs.Certificate.{AreNumbers, mark}
+use Rattle.corner_lift.specs.Certificate.{AreNumbers}
 use Rattle.corner_lift.specs.Laws.{NumbersAreInRange, WeightsInside, SumsAreTotals, MeansAtLeastInside}
 use Rattle.reward_cert.specs.Charges.{RewardData, AreRewards, charge}
 use Rattle.reward_cert.specs.Rounded.{reward_down}
 use Rattle.reward_cert.specs.Rows.{IsBacked}
-use Rattle.reward_cert.specs.Reaching.{IsReachingLowerAll, IsReachingLowerOne}
-use Rattle.reward_cert.specs.Said.{unit, IsCostAtLeastOrMissed}
+use Rattle.reward_cert.specs.Said.{unit}
 use Rattle.reward_cert.specs.Laws.{ReachingLowerAllBounds, ReachingLowerOneBounds}
-use Rattle.reward_cert.proofs.Steps.{either_way, AreClosed, plan_value, choice_value}
-use Rattle.reward_cert.proofs.Bounding.{Stepping, Growing, bounded, grown_power}
+use Rattle.reward_cert.proofs.Steps.{AreClosed, plan_value, choice_value}
+use Rattle.reward_cert.proofs.Bounding.{bounded, grown_power}
 use Rattle.reward_cert.proofs.Covering.{down_is_covered}
 use Rattle.reward_cert.proofs.Valuations.{in_or_past, every, all_closed, row_of, plan_stepping, choice_stepping, grown_plain, total-positive, weights-least, row_is, row_total, row_past, choice_count}
 
@@ -39,7 +37,7 @@ row_keeps u c g d n y ys moves u_least n_least sum mean pays =
     omega (arith, linear, mul-le u ((ys -ℤ d) *ℤ n) (weighted_sum y moves) u_least mean, mul-le n (d *ℤ u) g n_least pays, mul-comm n g, owed u ys c d n, sum-shift u c y moves, ap (λ z. c *ℤ z) sum)
 
 -- what is bounded by the induction, as it is said
-said : (y u k t cost reached : ℤ) → ((u *ℤ y -ℤ t *ℤ u) *ℤ k) ≤ℤ (cost *ℤ t -ℤ reached *ℤ (t *ℤ u)) → (y *ℤ (u *ℤ k)) ≤ℤ (t *ℤ (cost +ℤ u *ℤ (k -ℤ reached)))
+pub said : (y u k t cost reached : ℤ) → ((u *ℤ y -ℤ t *ℤ u) *ℤ k) ≤ℤ (cost *ℤ t -ℤ reached *ℤ (t *ℤ u)) → (y *ℤ (u *ℤ k)) ≤ℤ (t *ℤ (cost +ℤ u *ℤ (k -ℤ reached)))
 said y u k t cost reached le = omega (arith, linear, le, left, right)
   where
     left : (u *ℤ y -ℤ t *ℤ u) *ℤ k ≡ y *ℤ (u *ℤ k) -ℤ (t *ℤ u) *ℤ k

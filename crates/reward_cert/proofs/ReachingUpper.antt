@@ -1,19 +1,18 @@
 -- By ranks that lead to the goal, it is reached in the end.
-use Rattle.std.proofs.Common.{◌≡◌, ℕ, zero, suc, ◌+◌, ◌-◌, ◌*◌, ◌<◌, ◌≤◌, ◌^◌, Bool, true, false, cond, List, length, ℤ, pos, negsuc, ◌+ℤ◌, ◌-ℤ◌, ◌*ℤ◌, ◌≤ℤ◌, refl, sym, ap, subst, ◌∙◌, arith, ◌⊎◌, inl, inr}
+use Rattle.std.proofs.Common.{◌≡◌, ℕ, zero, suc, ◌+◌, ◌-◌, ◌*◌, ◌<◌, ◌≤◌, ◌^◌, Bool, true, false, cond, List, length, ℤ, pos, negsuc, ◌+ℤ◌, ◌-ℤ◌, ◌*ℤ◌, ◌≤ℤ◌, refl, sym, ap, subst, arith, inr}
 use Rattle.std.proofs.lemmas.Nat.{pow_pos}
 use Rattle.lift_poly.specs.Polynomial.{Valuation}
-use Rattle.lift_poly.proofs.Ring.{linear, mul-comm, mul-zero, zero-mul, one-mul, mul-le, mul-nonneg, as_diff, diffs, diff-same}
-use Rattle.lift_model.specs.Process.{Process, Move, power, weighted_sum}
+use Rattle.lift_poly.proofs.Ring.{linear, mul-comm, mul-zero, one-mul, mul-le, as_diff, diffs, diff-same}
+use Rattle.lift_model.specs.Process.{Process, power, weighted_sum}
 use Rattle.lift_model.specs.Plan.{Plan, Fits}
 use Rattle.lift_model.specs.Reach.{reach}
 use Rattle.lift_model.specs.Memoryless.{memoryless_reach}
 use Rattle.lift_model.specs.Laws.{WeightedSumsAreNotNegative, WeightedSumsRise}
-use Rattle.lift_model.specs.Model.{is_goal, choices, row_at, moves_at, process_at}
+use Rattle.lift_model.specs.Model.{is_goal, choices, row_at, process_at}
 use Rattle.lift_grid.specs.Rectangle.{Spans, Inside}
 use Rattle.lift_grid.specs.Tree.{RejectData}
-use Rattle.lift_cert.specs.Reached.{Follows}
-use Rattle.corner_lift.specs.Case.{CaseData, IsCase, IsInside, number}
-use Rattle.corner_lift.specs.Certificate.{MeansAtLeast, mark, unmarked, ranked_below}
+use Rattle.corner_lift.specs.Case.{CaseData, IsCase, IsInside}
+use Rattle.corner_lift.specs.Certificate.{MeansAtLeast, mark}
 use Rattle.corner_lift.specs.Laws.{WeightsInside, MeansAtLeastInside}
 use Rattle.reward_cert.specs.Charges.{RewardData, charge}
 use Rattle.reward_cert.specs.Expected.{expected_cost, memoryless_cost}
@@ -21,7 +20,7 @@ use Rattle.reward_cert.specs.Rows.{has_number, numbered, LeadsOn}
 use Rattle.reward_cert.specs.Reaching.{AreGoalRanks}
 use Rattle.reward_cert.specs.Laws.{ReachingUpperAllReaches, ReachingUpperOneReaches}
 use Rattle.reward_cert.proofs.Steps.{either_way, plan_value, choice_value}
-use Rattle.reward_cert.proofs.Bounding.{Growing, grown_power, power-least, value-least}
+use Rattle.reward_cert.proofs.Bounding.{grown_power, value-least}
 use Rattle.reward_cert.proofs.Pushing.{IsPushing, reaches}
 use Rattle.reward_cert.proofs.Leading.{leads_inside}
 use Rattle.reward_cert.proofs.Powers.{all_parts, all_left}
@@ -34,7 +33,7 @@ alone cost reached = omega (arith, linear, mul-zero cost, turned)
     turned : reached *ℤ negsuc 0 ≡ pos 0 -ℤ reached
     turned = rw (as_diff reached) (simp diffs (diff-same _ _ _ _ (omega arith)))
 
-said : (all t h reached : ℤ) → ((pos 1 *ℤ (t -ℤ h)) *ℤ all) ≤ℤ (reached *ℤ t) → (t *ℤ all) ≤ℤ (t *ℤ reached +ℤ h *ℤ all)
+pub said : (all t h reached : ℤ) → ((pos 1 *ℤ (t -ℤ h)) *ℤ all) ≤ℤ (reached *ℤ t) → (t *ℤ all) ≤ℤ (t *ℤ reached +ℤ h *ℤ all)
 said all t h reached le = omega (arith, linear, le, mul-comm reached t, parted)
   where
     parted : (pos 1 *ℤ (t -ℤ h)) *ℤ all ≡ t *ℤ all -ℤ h *ℤ all
@@ -144,7 +143,7 @@ module _ (nonnegative : WeightedSumsAreNotNegative) (rise : WeightedSumsRise) (w
 
   -- ---- as it is said
 
-  in_words : (e h j : ℕ) (s : ℕ) (all cost reached : ℤ) → has_number c.numbers s ≡ true → let m = power (pos (2 ^ e)) h *ℤ pos (2 ^ 0) in
+  pub in_words : (e h j : ℕ) (s : ℕ) (all cost reached : ℤ) → has_number c.numbers s ≡ true → let m = power (pos (2 ^ e)) h *ℤ pos (2 ^ 0) in
       ((numbered c.numbers s *ℤ (power m j -ℤ power (m -ℤ pos 1) j)) *ℤ all) ≤ℤ ((cost *ℤ pos 0 -ℤ reached *ℤ negsuc 0) *ℤ power m j)
       → (pos (2 ^ ((0 + e * h) * j)) *ℤ all) ≤ℤ (pos (2 ^ ((0 + e * h) * j)) *ℤ reached +ℤ pos ((2 ^ (0 + e * h) - 1) ^ j) *ℤ all)
   in_words e h j s all cost reached has le =
@@ -154,7 +153,7 @@ module _ (nonnegative : WeightedSumsAreNotNegative) (rise : WeightedSumsRise) (w
       subst (λ z. (z *ℤ all) ≤ℤ (z *ℤ reached +ℤ pos ((2 ^ (0 + e * h) - 1) ^ j) *ℤ all)) (all_parts 0 e h j)
       (subst (λ z. (power m j *ℤ all) ≤ℤ (power m j *ℤ reached +ℤ z *ℤ all)) (all_left 0 e h j) (said all (power m j) (power (m -ℤ pos 1) j) reached bare))
 
-without : (P : ℕ → Type 0) (n : ℕ) → P (0 + n) → P n
+pub without : (P : ℕ → Type 0) (n : ℕ) → P (0 + n) → P n
 without P n p = let same : 0 + n ≡ n = omega arith in subst P same p
 
 pub reaching_upper_all_reaches : WeightedSumsAreNotNegative → WeightedSumsRise → WeightsInside → MeansAtLeastInside → ReachingUpperAllReaches

@@ -1,7 +1,7 @@
 -- One step of a scheduler, where what follows is bounded from below: of what it pays times one number, less what it reaches times another.
-use Rattle.std.proofs.Common.{◌≡◌, ℕ, zero, suc, ◌+◌, ◌<◌, Bool, true, false, cond, List, [], ◌∷◌, length, get_or, ℤ, pos, ◌+ℤ◌, ◌-ℤ◌, ◌*ℤ◌, ◌≤ℤ◌, refl, sym, ap, ◌∙◌, arith, ◌⊎◌, inl, inr, IsTrue}
+use Rattle.std.proofs.Common.{◌≡◌, ℕ, zero, suc, ◌+◌, ◌<◌, Bool, true, false, cond, List, [], ◌∷◌, length, get_or, ℤ, pos, ◌+ℤ◌, ◌-ℤ◌, ◌*ℤ◌, ◌≤ℤ◌, refl, arith, ◌⊎◌, inl, inr, IsTrue}
 use Rattle.std.specs.List.{AllByRecursion}
-use Rattle.lift_poly.proofs.Ring.{linear, mul-comm, mul-assoc, mul-add, add-mul, zero-mul, mul-zero, one-mul, mul-le, as_diff, pos_diff, diffs, diff-same}
+use Rattle.lift_poly.proofs.Ring.{linear, mul-comm, zero-mul, one-mul, mul-le, as_diff, pos_diff, diffs, diff-same}
 use Rattle.lift_model.specs.Process.{Process, Move, power, weighted_sum}
 use Rattle.lift_model.specs.Plan.{Plan, Parts, Plans, MovesFit, PartFits, PartsFit, PlanFits, Fits}
 use Rattle.lift_model.specs.Plan.Plan.{stop, toss}

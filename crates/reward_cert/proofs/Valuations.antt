@@ -1,16 +1,16 @@
 -- What a case gives at a valuation inside a rectangle, and the steps of its schedulers there.
-use Rattle.std.proofs.Common.{◌≡◌, ℕ, zero, suc, ◌<◌, ◌≤◌, Bool, true, false, cond, List, [], ◌∷◌, length, map, get_or, All, ℤ, pos, ◌+ℤ◌, ◌-ℤ◌, ◌*ℤ◌, ◌≤ℤ◌, ◌<ℤ◌, refl, sym, ap, subst, ◌∙◌, arith, ◌⊎◌, ⊎_elim}
+use Rattle.std.proofs.Common.{◌≡◌, ℕ, zero, suc, ◌<◌, ◌≤◌, Bool, true, List, [], ◌∷◌, length, map, get_or, All, ℤ, pos, ◌+ℤ◌, ◌*ℤ◌, ◌≤ℤ◌, ◌<ℤ◌, refl, sym, ap, subst, ◌∙◌, arith, ◌⊎◌, ⊎_elim}
 use Rattle.std.specs.List.{AllByRecursion}
 use Rattle.std.proofs.lemmas.List.{get_or_past}
 use Rattle.std.proofs.lemmas.List.Elements.{All-head, All-tail}
 use Rattle.lift_poly.specs.Polynomial.{Valuation, weight, denominator}
-use Rattle.lift_poly.proofs.Ring.{linear, mul-nonneg, mul-lt, mul-zero, mul-comm, one-mul, as_diff, diffs, diff-same}
+use Rattle.lift_poly.proofs.Ring.{linear, mul-lt, mul-zero, one-mul, as_diff, diffs, diff-same}
 use Rattle.lift_model.specs.Process.{Process, Move, power, weighted_sum}
 use Rattle.lift_model.specs.Plan.{Plan, Fits}
 use Rattle.lift_model.specs.Memoryless.{memoryless_reach}
 use Rattle.lift_model.specs.Laws.{AreNonNegative}
 use Rattle.lift_model.specs.declared.entry.Entry.{Entry}
-use Rattle.lift_model.specs.Model.{ModelData, choices, row_at, moves_at, process_at}
+use Rattle.lift_model.specs.Model.{choices, row_at, moves_at, process_at}
 use Rattle.lift_grid.specs.Rectangle.{Spans, Inside}
 use Rattle.corner_lift.specs.Case.{CaseData, IsCase, IsInside}
 use Rattle.corner_lift.specs.Laws.{WeightsInside, SumsAreTotals}

@@ -1,14 +1,14 @@
 -- What holds of certificates of expected costs, for who reasons about them: at every valuation inside a rectangle that lies inside a case's root.
-use Rattle.std.specs.Prelude.{◌≡◌, ℕ, zero, suc, ◌+◌, ◌*◌, ◌≤◌, true, List, ℤ, pos, ◌+ℤ◌, ◌*ℤ◌, ◌≤ℤ◌, if◌then◌else◌}
+use Rattle.std.specs.Prelude.{◌≡◌, ℕ, suc, ◌+◌, ◌*◌, ◌≤◌, true, List, ℤ, pos, ◌+ℤ◌, ◌*ℤ◌, ◌≤ℤ◌, if◌then◌else◌}
 use Rattle.lift_poly.specs.Polynomial.{Valuation}
 use Rattle.lift_grid.specs.Rectangle.{Spans, Inside}
 use Rattle.lift_grid.specs.Tree.{RejectData}
-use Rattle.lift_frac.specs.Gcd.{gcd}
 use Rattle.lift_costs.specs.Costs.{CostData}
 use Rattle.lift_model.specs.Process.{Process, power}
 use Rattle.lift_model.specs.Plan.{Plan, Fits}
 use Rattle.lift_model.specs.Reach.{plan_reach}
 use Rattle.corner_lift.specs.Case.{CaseData, IsCase, IsInside, number}
+use Rattle.corner_lift.specs.Certificate.{AtMost}
 use Rattle.reward_cert.specs.Charges.{RewardData, AreRewards, sum_of}
 use Rattle.reward_cert.specs.Expected.{expected_cost}
 use Rattle.reward_cert.specs.Rows.{has_number}
@@ -75,3 +75,53 @@ CollectedLowerAllBounds = (k : CaseData) (spans : Spans) (r : RewardData) (c : R
 abbrev pub CollectedLowerOneBounds : Type 0
 CollectedLowerOneBounds = (k : CaseData) (spans : Spans) (r : RewardData) (c : RejectData) → IsCase k → IsInside k.root spans → AreRewards r → IsCollectedLowerOne k spans r c
     → (v : Valuation) → Inside k.d spans v → (s : ℕ) → FollowersPayAfter k.model v k.w r c s
+
+-- ---- from below and from above, of two rectangles that share a valuation: neither speaks of more than the other allows
+
+-- what is collected, over one choice from below and over every choice from above
+abbrev pub CollectedLowerOneIsBelowUpperAll : Type 0
+CollectedLowerOneIsBelowUpperAll = (k : CaseData) (spans others : Spans) (r : RewardData) (z : List ℤ) (c : RejectData) (v : Valuation) → IsCase k → IsInside k.root spans → IsInside k.root others → Inside k.d spans v → Inside k.d others v → AreRewards r
+    → IsCollectedUpperAll k spans r z → IsCollectedLowerOne k others r c → (s : ℕ) → has_number z s ≡ true → number c.numbers s ≤ℤ number z s
+
+-- over every choice from below and over one choice from above
+abbrev pub CollectedLowerAllIsBelowUpperOne : Type 0
+CollectedLowerAllIsBelowUpperOne = (k : CaseData) (spans others : Spans) (r : RewardData) (z : List ℤ) (picks : List ℕ) (c : RejectData) (v : Valuation) → IsCase k → IsInside k.root spans → IsInside k.root others → Inside k.d spans v → Inside k.d others v → AreRewards r
+    → IsCollectedUpperOne k spans r z picks → IsCollectedLowerAll k others r c → (s : ℕ) → has_number z s ≡ true → number c.numbers s ≤ℤ number z s
+
+-- the cost to reach the goal, over one choice from below and over every choice from above
+abbrev pub ReachingLowerOneIsBelowUpperAll : Type 0
+ReachingLowerOneIsBelowUpperAll = (k : CaseData) (spans others : Spans) (r : RewardData) (c : RejectData) (y : List ℤ) (picks : List ℕ) (v : Valuation) → IsCase k → IsInside k.root spans → IsInside k.root others → Inside k.d spans v → Inside k.d others v → AreRewards r
+    → IsReachingUpperAll k spans r c → IsReachingLowerOne k others r y picks → (s : ℕ) → has_number c.numbers s ≡ true → number y s ≤ℤ number c.numbers s
+
+-- over every choice from below and over one choice from above
+abbrev pub ReachingLowerAllIsBelowUpperOne : Type 0
+ReachingLowerAllIsBelowUpperOne = (k : CaseData) (spans others : Spans) (r : RewardData) (c : RejectData) (y : List ℤ) (v : Valuation) → IsCase k → IsInside k.root spans → IsInside k.root others → Inside k.d spans v → Inside k.d others v → AreRewards r
+    → IsReachingUpperOne k spans r c → IsReachingLowerAll k others r y → (s : ℕ) → has_number c.numbers s ≡ true → number y s ≤ℤ number c.numbers s
+
+-- ---- the greatest of a kind
+
+-- of two certificates from below for all of the cost to reach the goal there is one at or above both
+abbrev pub ReachingLowerAllsJoin : Type 0
+ReachingLowerAllsJoin = (k : CaseData) (spans : Spans) (r : RewardData) (x y : List ℤ) → IsCase k → IsInside k.root spans → IsReachingLowerAll k spans r x → IsReachingLowerAll k spans r y
+    → (z : List ℤ) × (IsReachingLowerAll k spans r z × AtMost x z × AtMost y z)
+
+-- and of two for one
+abbrev pub ReachingLowerOnesJoin : Type 0
+ReachingLowerOnesJoin = (k : CaseData) (spans : Spans) (r : RewardData) (x y : List ℤ) (p q : List ℕ) → IsCase k → IsInside k.root spans → IsReachingLowerOne k spans r x p → IsReachingLowerOne k spans r y q
+    → (z : List ℤ) × ((picks : List ℕ) × (IsReachingLowerOne k spans r z picks × AtMost x z × AtMost y z))
+
+-- ---- the least of a kind
+
+-- z is at or below x at each state, where none is above all numbers
+abbrev pub IsAtOrBelow : List ℤ → List ℤ → Type 0
+IsAtOrBelow z x = (s : ℕ) → has_number x s ≡ true → (has_number z s ≡ true) × (number z s ≤ℤ number x s)
+
+-- of two certificates from above for all of what is collected there is one at or below both
+abbrev pub CollectedUpperAllsMeet : Type 0
+CollectedUpperAllsMeet = (k : CaseData) (spans : Spans) (r : RewardData) (x y : List ℤ) → IsCase k → IsInside k.root spans → IsCollectedUpperAll k spans r x → IsCollectedUpperAll k spans r y
+    → (z : List ℤ) × (IsCollectedUpperAll k spans r z × IsAtOrBelow z x × IsAtOrBelow z y)
+
+-- and of two for one
+abbrev pub CollectedUpperOnesMeet : Type 0
+CollectedUpperOnesMeet = (k : CaseData) (spans : Spans) (r : RewardData) (x y : List ℤ) (p q : List ℕ) → IsCase k → IsInside k.root spans → IsCollectedUpperOne k spans r x p → IsCollectedUpperOne k spans r y q
+    → (z : List ℤ) × ((picks : List ℕ) × (IsCollectedUpperOne k spans r z picks × IsAtOrBelow z x × IsAtOrBelow z y))

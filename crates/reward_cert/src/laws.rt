@@ -1,10 +1,14 @@
+ghost use Rattle.reward_cert.specs.Laws.{CollectedUpperAllsMeet, CollectedUpperOnesMeet};
+ghost use Rattle.reward_cert.specs.Laws.{ReachingLowerAllsJoin, ReachingLowerOnesJoin};
 ghost use Rattle.reward_cert.specs.Laws.{SumIsExact, CostOfStatesIsExpected};
 ghost use Rattle.reward_cert.specs.Laws.{ReachingLowerAllBounds, ReachingLowerOneBounds};
 ghost use Rattle.reward_cert.specs.Laws.{CollectedUpperAllBounds, CollectedUpperOneBounds};
 ghost use Rattle.reward_cert.specs.Laws.{CollectedLowerAllBounds, CollectedLowerOneBounds};
 ghost use Rattle.reward_cert.specs.Laws.{ReachingUpperAllReaches, ReachingUpperOneReaches};
+ghost use Rattle.reward_cert.specs.Laws.{CollectedLowerOneIsBelowUpperAll, CollectedLowerAllIsBelowUpperOne};
+ghost use Rattle.reward_cert.specs.Laws.{ReachingLowerOneIsBelowUpperAll, ReachingLowerAllIsBelowUpperOne};
 
-use corner_lift::{rows_at_corners, rows_inside};
+use corner_lift::{corners_bound_weights, rows_at_corners, rows_inside};
 use lift_frac::divisors_and_multiples;
 use lift_model::weighted_sums_follow;
 
@@ -59,4 +63,37 @@ pub fn collected_lower_bounds()
     weighted_sums_follow();
     rows_at_corners();
     rows_inside();
+}
+
+/// Holds that no certificate from below is above one from above, for who reasons about verdicts: of two rectangles
+/// that share a valuation, in each reading, the one over one choice and the other over every choice. It does nothing.
+pub fn lower_is_below_upper()
+    ensures collected_one { CollectedLowerOneIsBelowUpperAll }
+    ensures collected_all { CollectedLowerAllIsBelowUpperOne }
+    ensures reaching_one { ReachingLowerOneIsBelowUpperAll }
+    ensures reaching_all { ReachingLowerAllIsBelowUpperOne }
+{
+    divisors_and_multiples();
+    weighted_sums_follow();
+    rows_at_corners();
+    rows_inside();
+}
+
+/// Holds the law by which there are greatest certificates from below of the cost to reach the goal: of two there is
+/// one at or above both. It does nothing.
+pub fn reaching_lowers_join()
+    ensures all { ReachingLowerAllsJoin }
+    ensures one { ReachingLowerOnesJoin }
+{
+    rows_at_corners();
+}
+
+/// Holds the law by which there are least certificates from above of what is collected: of two there is one at or
+/// below both. It does nothing.
+pub fn collected_uppers_meet()
+    ensures all { CollectedUpperAllsMeet }
+    ensures one { CollectedUpperOnesMeet }
+{
+    corners_bound_weights();
+    rows_at_corners();
 }

@@ -5,6 +5,6 @@
 mod laws;
 
 pub use laws::{
-    collected_lower_bounds, collected_upper_bounds, costs_of_choices, reaching_lower_bounds,
-    reaching_upper_bounds,
+    collected_lower_bounds, collected_upper_bounds, collected_uppers_meet, costs_of_choices,
+    lower_is_below_upper, reaching_lower_bounds, reaching_lowers_join, reaching_upper_bounds,
 };
