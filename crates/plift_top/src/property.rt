@@ -3,7 +3,7 @@ ghost use Rattle.std.specs.Prelude.{◌≡◌, ℕ};
 ghost use Rattle.std.specs.List.{concat};
 ghost use Rattle.lift_base.specs.Outside.{Wrote, WroteSome};
 ghost use Rattle.lift_model.specs.Links.{AreLinks};
-ghost use Rattle.property_tree.specs.Rooms.{IsMadeFor};
+ghost use Rattle.region_tree.specs.Rooms.{IsMadeFor};
 ghost use Rattle.property_text.specs.Grammar.{op_text};
 ghost use Rattle.plift_top.specs.Property.{property_lines, property_head, IsPropertyText};
 
@@ -15,7 +15,8 @@ use lift_base::{
 };
 use lift_cert::Bound;
 use property_text::Op;
-use property_tree::{PropertyRoom, Question, write_tree};
+use property_tree::{Question, write_tree};
+use region_tree::Room;
 
 // A comparison as it is written.
 fn op_text(op: Op) -> &'static [u8]
@@ -68,7 +69,7 @@ fn write_property_head<K: Sink>(
 // memory.
 fn write_property<K: Sink>(
     question: &Question,
-    room: &mut PropertyRoom,
+    room: &mut Room,
     out: &mut K,
 ) -> Result<(), WriteFault>
     requires links { AreLinks question.now.case.now.model question.now.links.now }
@@ -84,7 +85,7 @@ fn write_property<K: Sink>(
 #[derive(Drop)]
 struct PropertyReport<'q, 'c, 'm, 'r> {
     question: &'q Question<'c, 'm>,
-    room: &'r mut PropertyRoom,
+    room: &'r mut Room,
 }
 
 impl<'q, 'c, 'm, 'r> Telling for PropertyReport<'q, 'c, 'm, 'r> {
@@ -101,7 +102,7 @@ impl<'q, 'c, 'm, 'r> Telling for PropertyReport<'q, 'c, 'm, 'r> {
 /// Writes the text of a case for a property, by way of a buffer. Takes no memory.
 pub(crate) fn write_property_buffered<K: Sink>(
     question: &Question,
-    room: &mut PropertyRoom,
+    room: &mut Room,
     out: &mut K,
 ) -> Result<(), WriteFault>
     requires links { AreLinks question.now.case.now.model question.now.links.now }

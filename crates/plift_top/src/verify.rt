@@ -7,7 +7,6 @@ ghost use Rattle.lift_grid.specs.Parts.{region_of};
 ghost use Rattle.lift_model.specs.Links.{AreLinks};
 ghost use Rattle.region_tree.specs.Rooms as whole;
 ghost use Rattle.lift_bounded.specs.Rooms as within;
-ghost use Rattle.property_tree.specs.Rooms as property;
 ghost use Rattle.lift_cost.specs.Rooms as cost;
 ghost use Rattle.lift_cost.specs.Decided.{CanAskCost};
 ghost use Rattle.plift_words.specs.Given.{verify_data};
@@ -46,7 +45,6 @@ use lift_names::Names;
 use lift_rows::{admit, admit_linked};
 use plift_words::{CostLimits, Query, VerifyJob};
 use property_text::{Op, goals_of, restrict, until_is_reach};
-use property_tree::PropertyRoom;
 use region_tree::{Room, rectangles_at_depths, right_trees_tile};
 use std::alloc::Global;
 
@@ -259,12 +257,12 @@ fn write_within<K: Sink>(
 // Writes the text of such a case for a property. Takes no memory.
 fn write_case_for<K: Sink>(
     question: &property_tree::Question,
-    room: &mut PropertyRoom,
+    room: &mut Room,
     out: &mut K,
 ) -> Result<(), WriteFault>
     requires case { IsTestedCase question.now.case.now }
     requires links { AreLinks question.now.case.now.model question.now.links.now }
-    requires made { property.IsMadeFor question.now.case.now question.now.links.now room.old }
+    requires made { whole.IsMadeFor question.now.case.now question.now.links.now room.old }
     ensures { (a : AskedModel) → question.now.case.now.model ≡ cut a
         → WritesCase K.taken K.faults question.now.case.now
         (property_question a question.now.case.now question.now.op question.now.bound) out.old out.new result }
@@ -289,7 +287,7 @@ fn write_for<K: Sink>(
     ensures { (a : AskedModel) → question.now.case.now.model ≡ cut a
         → AnswersCase K.taken K.faults (Property question.now.bound op) a question.now.case.now out.old out.new result }
 {
-    let mut room = PropertyRoom::make(alloc, question.case, question.links)?;
+    let mut room = Room::make(alloc, question.case, question.links)?;
     let asked = property_tree::Question {
         case: question.case,
         links: question.links,

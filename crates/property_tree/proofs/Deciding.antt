@@ -1,5 +1,5 @@
 -- What decides a rectangle, by the greatest number on the lower side of the bound.
-use Rattle.std.proofs.Common.{◌≡◌, true, false, true≢false, Bool, List, ℕ, ℤ, pos, ◌+ℤ◌, ◌≤ℤ◌, ◌<ℤ◌, Option, Some, None, IfSome, refl, sym, ◌∙◌, subst, arith}
+use Rattle.std.proofs.Common.{◌≡◌, true, false, true≢false, Bool, List, ℕ, ℤ, pos, ◌+ℤ◌, ◌≤ℤ◌, ◌<ℤ◌, Option, Some, None, IfSome, MatchOption, refl, sym, ◌∙◌, subst, arith}
 use Rattle.lift_poly.proofs.Ring.{linear}
 use Rattle.lift_grid.specs.Rectangle.{Spans}
 use Rattle.corner_lift.specs.Case.{CaseData, IsCase, number}
@@ -16,9 +16,12 @@ use Rattle.lift_dual.specs.Sides.{IsUpperOne}
 use Rattle.lift_dual.specs.Choosing.{IsLeastUpperOneWithin}
 use Rattle.lift_dual.specs.Greatest.{IsGreatestAllAbove, NoneOfAllIsAbove}
 use Rattle.region_tree.specs.Decided.{lane, reject_in}
+use Rattle.region_tree.specs.Sides.{IsTold}
 use Rattle.region_tree.specs.declared.pools.Pools.{Pools}
+use Rattle.region_tree.specs.declared.side.Side.{Side}
+use Rattle.region_tree.specs.declared.side.Side.TheVariants.{Above, Below}
 use Rattle.property_tree.specs.Leaves.{PropertyLeaf, IsCertificate, Settles, DecidesFor, IsOpenFor, bounds_above}
-use Rattle.property_tree.specs.Decided.{NoneFromAbove, NoneFromBelow, lower_all_in, lower_in, upper_in}
+use Rattle.property_tree.specs.Decided.{NoneFromAbove, NoneFromBelow, decides_above, decides_below, leaf_in, lower_all_in, lower_in, upper_in}
 use Rattle.property_tree.proofs.Beside.{low_below, high_above}
 
 module _ (k : CaseData) (op : Op) (bound : Bound) (spans : Spans) (limit : ℤ) (low : IsLowSide op bound k.w limit) (high : IsHighSide op bound k.w (limit +ℤ pos 1)) (apart : SidesAreApart) where
@@ -106,3 +109,10 @@ is_open k op bound spans above below = record { none = of_kind; none_higher = be
     of_kind (PropertyLeaf.upper_one x picks) certificate settles = above (PropertyLeaf.upper_one x picks) refl certificate settles
     of_kind (PropertyLeaf.lower r) certificate settles = below.none (PropertyLeaf.lower r) refl certificate settles
     of_kind (PropertyLeaf.lower_all r) certificate settles = below.none (PropertyLeaf.lower_all r) refl certificate settles
+
+-- what is told of a rectangle, as its leaf
+pub told_is_decided : (k : CaseData) (op : Op) (bound : Bound) (spans : Spans) (p : Pools) (found : Option Side) → IsTold (decides_above op bound) (decides_below op bound) (λ c. NoneFromAbove c op bound) (λ c. NoneFromBelow c op bound) k spans p found
+    → MatchOption found (IsOpenFor k op bound spans) (λ side. DecidesFor k op bound spans (leaf_in op p side))
+told_is_decided k op bound spans p (Some Above) told = told
+told_is_decided k op bound spans p (Some (Below rate)) told = told
+told_is_decided k op bound spans p None told = is_open k op bound spans told.0 told.1

@@ -48,11 +48,8 @@ module _ {T : Type 0} where
   pub same_pool : (p : PoolData T) → IsSameShape p p
   same_pool p = record { lanes = refl; spare = refl; spare_lanes = refl }
 
-  pub pool_then : (p q r : PoolData T) → IsSameShape p q → IsSameShape q r → IsSameShape p r
+  pool_then : (p q r : PoolData T) → IsSameShape p q → IsSameShape q r → IsSameShape p r
   pool_then p q r a b = record { lanes = b.lanes ∙ a.lanes; spare = b.spare ∙ a.spare; spare_lanes = b.spare_lanes ∙ a.spare_lanes }
-
-pub same_pools : (p : Pools) → KeepsPools p p
-same_pools p = record { values = same_pool p.values; allowed = same_pool p.allowed; ranks = same_pool p.ranks; picks = same_pool p.picks; work = same_pool p.work }
 
 pub pools_then : (p q r : Pools) → KeepsPools p q → KeepsPools q r → KeepsPools p r
 pools_then p q r a b = record {

@@ -1,5 +1,5 @@
 -- What a verdict says of a rectangle, with the certificate that stands in the lanes.
-use Rattle.std.specs.Prelude.{◌≡◌, ℕ, true, false, [], Option, MatchOption, if◌then◌else◌}
+use Rattle.std.specs.Prelude.{◌≡◌, ℕ, true, false, [], if◌then◌else◌}
 use Rattle.lift_grid.specs.Rectangle.{Spans}
 use Rattle.lift_grid.specs.Tree.{RejectData}
 use Rattle.corner_lift.specs.Case.{CaseData, number}
@@ -9,9 +9,9 @@ use Rattle.property_text.specs.declared.op.Op.{Op}
 use Rattle.lift_dual.specs.Property.{is_upper, IsHighSide}
 use Rattle.region_tree.specs.Decided.{lane, reject_in, reject_of}
 use Rattle.region_tree.specs.declared.pools.Pools.{Pools}
-use Rattle.property_tree.specs.Leaves.{PropertyLeaf, IsCertificate, Settles, DecidesFor, IsOpenFor, bounds_above}
-use Rattle.property_tree.specs.declared.decision.Verdict.{Verdict}
-use Rattle.property_tree.specs.declared.decision.Verdict.TheVariants.{Above, Below}
+use Rattle.property_tree.specs.Leaves.{PropertyLeaf, IsCertificate, Settles, DecidesFor, bounds_above}
+use Rattle.region_tree.specs.declared.side.Side.{Side}
+use Rattle.region_tree.specs.declared.side.Side.TheVariants.{Above, Below}
 
 -- the lower vector for every scheduler that stands in the lanes, with e and k; it picks none
 abbrev pub lower_all_in : Pools → ℕ → ℕ → RejectData
@@ -34,11 +34,15 @@ pub record NoneFromBelow (k : CaseData) (op : Op) (bound : Bound) (spans : Spans
   pub none : (leaf : PropertyLeaf) → bounds_above leaf ≡ false → IsCertificate k spans leaf → Settles k op bound leaf → ⊥
   pub none_higher : is_upper op ≡ true → (u : UnboundedReject) → IsUnboundedLower k spans u → IsHighSide op bound k.w (number u.numbers k.model.init) → ⊥
 
--- the leaf of a verdict, by the certificate that stands in the lanes
-abbrev pub leaf_in : Op → Pools → Verdict → PropertyLeaf
-leaf_in op p Above = upper_in op p
-leaf_in op p (Below e height) = lower_in op p e height
+-- the certificate from above that stands in the lanes decides the rectangle
+abbrev pub decides_above : Op → Bound → CaseData → Spans → Pools → Type 0
+decides_above op bound k spans p = DecidesFor k op bound spans (upper_in op p)
 
--- what is told of the rectangle is right: the leaf of a verdict decides it, and without a verdict it is open
-abbrev pub IsDecidedFor : CaseData → Op → Bound → Spans → Pools → Option Verdict → Type 0
-IsDecidedFor k op bound spans p found = MatchOption found (IsOpenFor k op bound spans) (λ verdict. DecidesFor k op bound spans (leaf_in op p verdict))
+-- that from below does, with e and k
+abbrev pub decides_below : Op → Bound → CaseData → Spans → Pools → ℕ → ℕ → Type 0
+decides_below op bound k spans p e height = DecidesFor k op bound spans (lower_in op p e height)
+
+-- the leaf of a verdict, by the certificate that stands in the lanes
+abbrev pub leaf_in : Op → Pools → Side → PropertyLeaf
+leaf_in op p Above = upper_in op p
+leaf_in op p (Below rate) = lower_in op p rate.e rate.k

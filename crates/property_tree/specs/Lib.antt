@@ -1,7 +1,6 @@
 pub mod Leaves
 pub mod Decided
-pub mod Recent
-pub mod Rooms
+pub mod Ready
 pub mod Text
 pub mod Laws
 pub mod Built

@@ -9,10 +9,8 @@ ghost use Rattle.property_tree.specs.Decided.{leaf_in, lower_in, upper_in};
 ghost use Rattle.property_tree.specs.Leaves.{IsRightFor};
 
 use crate::decider::PropertyDecider;
-use crate::decision::Verdict;
 use crate::laws::leaves_are_one;
 use crate::question::Question;
-use crate::room::{PropertyLanes, PropertyRoom};
 use crate::sides::is_upper;
 use corner_lift::Case;
 use lift_cert::Bound;
@@ -20,7 +18,7 @@ use lift_grid::{Marks, Values};
 use lift_model::Links;
 use lower_cert::Rate;
 use property_text::Op;
-use region_tree::Pools;
+use region_tree::{Lanes, Pools, Room, Side, lanes_keep_their_shape};
 use std::alloc::{AllocError, Global};
 use tree_writer::{Grower, build_tree};
 
@@ -116,13 +114,13 @@ impl Question<'_, '_> {
     }
 
     /// The leaf of a verdict, with the certificate that stands in the lanes.
-    fn leaf(&self, alloc: Global, verdict: Verdict, pools: &Pools) -> Result<DualBranch, AllocError>
+    fn leaf(&self, alloc: Global, verdict: Side, pools: &Pools) -> Result<DualBranch, AllocError>
         requires { HasPools self.now.case.now.model pools.now }
         ensures { IfOk result (λ b. halved_of b ≡ leaf (leaf_in self.now.op pools.now verdict)) }
     {
         match verdict {
-            Verdict::Above => self.leaf_above(alloc, pools),
-            Verdict::Below { e, k } => self.leaf_below(alloc, Rate { e, k }, pools),
+            Side::Above => self.leaf_above(alloc, pools),
+            Side::Below(rate) => self.leaf_below(alloc, rate, pools),
         }
     }
 }
@@ -136,10 +134,10 @@ impl Grower for PropertyDecider<'_, '_> {
     fn grow_leaf(
         &self,
         alloc: Global,
-        room: &PropertyLanes,
-        verdict: Verdict,
+        room: &Lanes,
+        verdict: Side,
     ) -> Result<DualBranch, AllocError> {
-        self.question.leaf(alloc, verdict, &room.pools)
+        self.question.leaf(alloc, verdict, room.pools())
     }
 
     fn grow_unknown(&self) -> DualBranch {
@@ -172,8 +170,9 @@ pub fn build(
     ensures { IfOk result (λ t. IsRightFor case.now op bound case.now.root 0 (halved_of t.top)) }
 {
     leaves_are_one();
+    lanes_keep_their_shape();
     let _ = case.w();
-    let mut room = PropertyRoom::make(alloc, case, links)?;
+    let mut room = Room::make(alloc, case, links)?;
     room.lanes.forget();
     let question = Question {
         case: &*case,

@@ -2,13 +2,13 @@
 
 ghost use Rattle.property_tree.specs.Decided.{leaf_in};
 ghost use Rattle.property_tree.specs.Leaves.{PropertyLeaf, DecidesFor, IsOpenFor};
-ghost use Rattle.property_tree.specs.Rooms.{AreReadyFor};
+ghost use Rattle.property_tree.specs.Ready.{AreReadyFor};
 ghost use Rattle.property_tree.specs.Text.{leaf_text};
 
-use crate::decision::Verdict;
+use crate::decision::Comparison;
 use crate::question::Question;
-use crate::room::PropertyLanes;
 use lift_base::{Sink, WriteFault};
+use region_tree::{Lanes, Search, Side, lanes_keep_their_shape};
 use tree_writer::Decider;
 
 /// Decides the rectangles of a case for what is asked of it.
@@ -18,9 +18,9 @@ pub(crate) struct PropertyDecider<'a, 'm> {
 }
 
 impl<'a, 'm> Decider for PropertyDecider<'a, 'm> {
-    type Room = PropertyLanes;
+    type Room = Lanes;
 
-    type Verdict = Verdict;
+    type Verdict = Side;
 
     ghost Leaf = { PropertyLeaf };
 
@@ -37,16 +37,27 @@ impl<'a, 'm> Decider for PropertyDecider<'a, 'm> {
     ghost is_ready = { λ d made lanes. AreReadyFor d.question.now.case.now d.question.now.links.now d.question.now.op
         d.question.now.bound made lanes };
 
-    fn decide(&self, room: &mut PropertyLanes, sides: &[i64]) -> Option<Verdict> {
-        self.question.decide(room, sides)
+    fn decide(&self, room: &mut Lanes, sides: &[i64]) -> Option<Side> {
+        lanes_keep_their_shape();
+        let question = self.question;
+        let sought = Comparison {
+            op: question.op,
+            bound: question.bound,
+        };
+        let search = Search {
+            case: question.case,
+            links: question.links,
+            sought: &sought,
+        };
+        search.decide(room, sides)
     }
 
     fn write_leaf<K: Sink>(
         &self,
-        room: &PropertyLanes,
-        verdict: Verdict,
+        room: &Lanes,
+        verdict: Side,
         out: &mut K,
     ) -> Result<(), WriteFault> {
-        self.question.write_leaf(verdict, &room.pools, out)
+        self.question.write_leaf(verdict, room.pools(), out)
     }
 }

@@ -2,14 +2,14 @@
 
 ghost use Rattle.lift_base.specs.Outside.{WroteSome};
 ghost use Rattle.lift_model.specs.Links.{AreLinks};
-ghost use Rattle.property_tree.specs.Rooms.{IsAsMade, IsMadeFor};
+ghost use Rattle.region_tree.specs.Rooms.{IsAsMade, IsMadeFor};
 ghost use Rattle.property_tree.specs.Text.{IsTreeText};
 
 use crate::decider::PropertyDecider;
 use crate::laws::leaves_are_one;
 use crate::question::Question;
-use crate::room::PropertyRoom;
 use lift_base::{Sink, WriteFault};
+use region_tree::{Room, lanes_keep_their_shape};
 
 /// Writes the lines of the nodes of the case's right tree for what is asked, in preorder, and ends at the first
 /// failure. The room was made for the case, and after it is as made. Takes no memory.
@@ -18,7 +18,7 @@ use lift_base::{Sink, WriteFault};
 /// them, from the front. An error comes only where the sink's count of faults rose or stands at its last value.
 pub fn write_tree<K: Sink>(
     question: &Question,
-    room: &mut PropertyRoom,
+    room: &mut Room,
     out: &mut K,
 ) -> Result<(), WriteFault>
     requires links { AreLinks question.now.case.now.model question.now.links.now }
@@ -28,6 +28,7 @@ pub fn write_tree<K: Sink>(
     ensures room { IsAsMade room.old room.new }
 {
     leaves_are_one();
+    lanes_keep_their_shape();
     let _ = question.case.w();
     room.lanes.forget();
     let decider = PropertyDecider {

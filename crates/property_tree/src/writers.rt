@@ -16,13 +16,12 @@ ghost use Rattle.property_tree.specs.Text.{
   verdict_line,
 };
 
-use crate::decision::Verdict;
 use crate::question::Question;
 use crate::sides::is_upper;
 use corner_lift::{Case, one_at};
 use lift_base::{Sink, Word, WriteFault, write_all, write_marks, write_words, writes_in_turn};
 use lower_cert::Rate;
-use region_tree::Pools;
+use region_tree::{Pools, Side};
 
 /// Writes whether the property holds.
 fn write_verdict<K: Sink>(out: &mut K, holds: bool) -> Result<(), WriteFault>
@@ -201,7 +200,7 @@ impl Question<'_, '_> {
     /// Writes a leaf by its verdict, with the certificate that stands in the lanes.
     pub(crate) fn write_leaf<K: Sink>(
         &self,
-        verdict: Verdict,
+        verdict: Side,
         pools: &Pools,
         out: &mut K,
     ) -> Result<(), WriteFault>
@@ -210,8 +209,8 @@ impl Question<'_, '_> {
             (leaf_text self.now.case.now self.now.op (leaf_in self.now.op pools.now verdict)) }
     {
         match verdict {
-            Verdict::Above => self.write_above(pools, out),
-            Verdict::Below { e, k } => self.write_below(Rate { e, k }, pools, out),
+            Side::Above => self.write_above(pools, out),
+            Side::Below(rate) => self.write_below(rate, pools, out),
         }
     }
 }

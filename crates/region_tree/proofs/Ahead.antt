@@ -1,7 +1,8 @@
 -- What is given of a base, of the trees that are ahead.
 use Rattle.std.proofs.Common.{◌≡◌, ℕ, List, ◌++◌, refl, sym, ap, subst, append_assoc}
 use Rattle.lift_grid.specs.Rectangle.{spans_of}
-use Rattle.corner_lift.specs.Case.{CaseData, AreSidesInside}
+use Rattle.corner_lift.specs.Case.{CaseData, IsCase, IsInside, AreSidesInside}
+use Rattle.lift_cert.specs.Laws.{NotBothKindsAtAValuation}
 use Rattle.lift_cert.specs.declared.bound.Bound.{Bound}
 use Rattle.lift_grid.specs.Tree.{RejectData}
 use Rattle.lift_range.specs.Laws.{AcceptingDoubles, RejectingDoubles}
@@ -9,11 +10,14 @@ use Rattle.lift_walk.specs.Halved.{Halved}
 use Rattle.lift_walk.specs.Bases.{MayStand as MayStandBy}
 use Rattle.region_tree.specs.Bases.{Gives}
 use Rattle.region_tree.specs.Nodes.{Node, nodes}
-use Rattle.region_tree.specs.Recent.{AreCertified, DecidedData, NotesAccepted, NotesRejected}
+use Rattle.lower_cert.specs.AnyRanks.{RanksFit}
+use Rattle.region_tree.specs.Decided.{AreKnownFor}
+use Rattle.region_tree.specs.Recent.{DecidedData, NotesAccepted, NotesRejected}
 use Rattle.region_tree.specs.Right.{Decision, tree_from}
 use Rattle.region_tree.specs.Walking.{MayStand}
 use Rattle.region_tree.specs.declared.base.Given.TheVariants.{Split, Accept, Reject, Unknown}
-use Rattle.region_tree.proofs.Meeting.{accepted_too, rejected_too}
+use Rattle.region_tree.proofs.Meeting.{accepted_too, accepting_rejects_none, meeting_rectangles_share, rejected_too, rejecting_accepts_none}
+use Rattle.region_tree.proofs.Ranges.{accepting_at_last, rejecting_at_last}
 
 module _ {B : Type 0} (is_ahead : B → List Node → Type 0) (bytes : B → List ℕ) (lines : Node → List ℕ) (old new : B) where
   abbrev After : Halved Decision → List Node → Type 0
@@ -52,16 +56,21 @@ module _ {B : Type 0} (is_ahead : B → List Node → Type 0) (bytes : B → Lis
   unknown_given gives (Halved.leaf (Decision.reject u r)) rest ahead = absurd ((gives (Node.reject u r) rest ahead).0)
   unknown_given gives Halved.unknown rest ahead = (refl, (gives Node.unknown rest ahead).1)
 
--- a leaf of a base is noted with its certificate
-module _ {B : Type 0} (is_ahead : B → List Node → Type 0) (bytes : B → List ℕ) (lines : Node → List ℕ) (old new : B) (k : CaseData) (bound : Bound) (sides : List _) (inside : AreSidesInside k.root sides) (before after : DecidedData) (certified : AreCertified k bound before) where
-  pub accept_noted : AcceptingDoubles → Gives is_ahead lines bytes old new Accept → (t : Halved Decision) (rest : List Node) → is_ahead old (nodes (tree_from t) ++ rest) → MayStandBy (MayStand k bound) (spans_of sides) t → NotesAccepted sides before after → AreCertified k bound after
-  accept_noted doubles gives t rest ahead may notes =
+-- a leaf of a base is noted: at the case's precision too it has its certificate, and so no rectangle that it shares a valuation with has one of the other kind
+module _ {B : Type 0} (is_ahead : B → List Node → Type 0) (bytes : B → List ℕ) (lines : Node → List ℕ) (old new : B) (one_kind : NotBothKindsAtAValuation) (k : CaseData) (is : IsCase k) (bound : Bound) (sides : List _) (inside : AreSidesInside k.root sides) (before after : DecidedData) (known : AreKnownFor k bound before) where
+  here : IsInside k.root (spans_of sides)
+  here = record { rectangle = inside.rectangle.spans; within = inside.within }
+
+  pub accept_noted : AcceptingDoubles → RanksFit → Gives is_ahead lines bytes old new Accept → (t : Halved Decision) (rest : List Node) → is_ahead old (nodes (tree_from t) ++ rest) → MayStandBy (MayStand k bound) (spans_of sides) t → NotesAccepted sides before after → AreKnownFor k bound after
+  accept_noted doubles fit gives t rest ahead may notes =
       let g = accept_given is_ahead bytes lines old new gives t rest ahead in
       let stands : MayStandBy (MayStand k bound) (spans_of sides) (Halved.leaf (Decision.accept g.0 g.1.0)) = subst (MayStandBy (MayStand k bound) (spans_of sides)) g.1.1.0 may in
-      accepted_too k bound sides before after inside g.0 stands.1 certified doubles g.1.0 stands.0 notes
+      let last = accepting_at_last doubles k (spans_of sides) bound g.0 stands.1 g.1.0 stands.0 in
+      accepted_too _ _ k sides before after known (λ others there meet. accepting_rejects_none one_kind meeting_rectangles_share k is bound (spans_of sides) others here there meet fit last.0 last.1) notes
 
-  pub reject_noted : RejectingDoubles → Gives is_ahead lines bytes old new Reject → (t : Halved Decision) (rest : List Node) → is_ahead old (nodes (tree_from t) ++ rest) → MayStandBy (MayStand k bound) (spans_of sides) t → NotesRejected sides before after → AreCertified k bound after
+  pub reject_noted : RejectingDoubles → Gives is_ahead lines bytes old new Reject → (t : Halved Decision) (rest : List Node) → is_ahead old (nodes (tree_from t) ++ rest) → MayStandBy (MayStand k bound) (spans_of sides) t → NotesRejected sides before after → AreKnownFor k bound after
   reject_noted doubles gives t rest ahead may notes =
       let g = reject_given is_ahead bytes lines old new gives t rest ahead in
       let stands : MayStandBy (MayStand k bound) (spans_of sides) (Halved.leaf (Decision.reject g.0 g.1.0)) = subst (MayStandBy (MayStand k bound) (spans_of sides)) g.1.1.0 may in
-      rejected_too k bound sides before after inside g.0 stands.1 certified doubles g.1.0 stands.0 notes
+      let last = rejecting_at_last doubles k (spans_of sides) bound g.0 stands.1 g.1.0 stands.0 in
+      rejected_too _ _ k sides before after known (λ others there meet. rejecting_accepts_none one_kind meeting_rectangles_share k is bound (spans_of sides) others here there meet last.0 last.1) notes

@@ -2,7 +2,7 @@ pub mod OtherPrecision
 pub mod Ranges
 pub mod Unique
 pub mod Tiling
-pub mod Lanes
+pub mod Shapes
 pub mod Shown
 pub mod Verdicts
 pub mod Found

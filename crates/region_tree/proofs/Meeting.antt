@@ -1,5 +1,5 @@
 -- What the rectangles that are noted tell of another one.
-use Rattle.std.proofs.Common.{◌≡◌, ℕ, zero, suc, ◌+◌, ◌<◌, ◌≤◌, List, [], ◌∷◌, length, get_or, drop, ℤ, pos, ◌*ℤ◌, ◌≤ℤ◌, ◌<ℤ◌, refl, sym, ap, ◌∙◌, subst, arith}
+use Rattle.std.proofs.Common.{◌≡◌, ℕ, zero, suc, ◌+◌, ◌<◌, ◌≤◌, List, [], ◌∷◌, length, get_or, drop, ℤ, pos, ◌*ℤ◌, ◌≤ℤ◌, ◌<ℤ◌, Option, Some, None, refl, sym, ap, ◌∙◌, subst, arith}
 use Rattle.std.proofs.lemmas.Int.{by_lt_z}
 use Rattle.std.proofs.lemmas.List.{drop_more, length-drop}
 use Rattle.lift_poly.specs.Polynomial.{Valuation}
@@ -9,17 +9,16 @@ use Rattle.lift_grid.specs.Tree.{RejectData}
 use Rattle.lift_cert.specs.Certificate.{IsAccepting, IsRejecting, NoneAccepts}
 use Rattle.lift_cert.specs.Laws.{NotBothKindsAtAValuation}
 use Rattle.lift_cert.specs.declared.bound.Bound.{Bound}
-use Rattle.corner_lift.specs.Case.{CaseData, IsCase, IsInside, AreSidesInside, at}
+use Rattle.corner_lift.specs.Case.{CaseData, IsCase, IsInside}
 use Rattle.lower_cert.specs.AnyRanks.{RanksFit}
-use Rattle.region_tree.specs.Decided.{IsDecidedBy}
-use Rattle.lift_range.specs.Laws.{AcceptingDoubles, RejectingDoubles}
-use Rattle.region_tree.proofs.Ranges.{accepting_at_last, rejecting_at_last}
-use Rattle.region_tree.specs.Recent.{RecentData, DecidedData, Meet, MeetsOne, sides_at, IsNoted, Notes, NotesAccepted, NotesRejected, IsInferred, HasAccepting, HasRejecting, AreCertified, IsSound, forgotten}
 use Rattle.region_tree.specs.Laws.{MeetingRectanglesShare}
+use Rattle.region_tree.specs.Recent.{RecentData, DecidedData, Meet, sides_at, IsNoted, Notes, NotesAccepted, NotesRejected, IsInferred, forgotten}
 use Rattle.region_tree.specs.Right.{NoneRejects}
+use Rattle.region_tree.specs.Sides.{AreApart, AreKnown, HoldsWhereMet, IsSoundFor, IsTold}
 use Rattle.region_tree.specs.declared.decided.Outlook.{Outlook}
-use Rattle.region_tree.specs.declared.verdict.Verdict.{Verdict}
-use Rattle.region_tree.specs.declared.verdict.Verdict.TheVariants.{Accept, Reject, Unknown}
+use Rattle.region_tree.specs.declared.pools.Pools.{Pools}
+use Rattle.region_tree.specs.declared.side.Side.{Side}
+use Rattle.region_tree.specs.declared.side.Side.TheVariants.{Above, Below}
 use Rattle.region_tree.proofs.AnyHeight.{none_at_any_height}
 
 -- ---- the sides of two rectangles, span by span
@@ -68,30 +67,25 @@ shared_valuation d (s ∷ ss) [] positive are others meet = absurd meet
 pub meeting_rectangles_share : MeetingRectanglesShare
 meeting_rectangles_share k spans others is inside there meet = shared_valuation k.d spans others is.asked.grid.positive inside.rectangle there.rectangle meet
 
--- ---- what is foretold holds
+-- ---- what rectangles tell of those that they share a valuation with
 
-module _ (one_kind : NotBothKindsAtAValuation) (fit : RanksFit) (k : CaseData) (is : IsCase k) (bound : Bound) (d : DecidedData) (certified : AreCertified k bound d) (spans : Spans) (inside : IsInside k.root spans) where
-  rectangle_inside : (sides : List ℤ) → AreSidesInside k.root sides → IsInside k.root (spans_of sides)
-  rectangle_inside sides h = record { rectangle = h.rectangle.spans; within = h.within }
+module _ (one_kind : NotBothKindsAtAValuation) (share : MeetingRectanglesShare) (k : CaseData) (is : IsCase k) (bound : Bound) (spans others : Spans) (inside : IsInside k.root spans) (there : IsInside k.root others) (meet : Meet spans others) where
+  pub accepting_rejects_none : RanksFit → (x : List ℤ) → IsAccepting k spans bound x → NoneRejects k others bound
+  accepting_rejects_none fit x accepting =
+      let v = share k spans others is inside there meet in
+      none_at_any_height fit k others bound is (λ r rejecting. one_kind k spans others bound x r v.0 is inside there v.1.0 v.1.1 accepting rejecting)
 
-  none_accepts : MeetsOne spans d.rejected → NoneAccepts k spans bound
-  none_accepts meets x accepting =
-      let sides = sides_at d.rejected meets.0 in
-      let other = certified.rejected meets.0 meets.1.0 in
-      let there = rectangle_inside sides other.inside in
-      let v = shared_valuation k.d (spans_of sides) spans is.asked.grid.positive there.rectangle inside.rectangle meets.1.1 in
-      one_kind k spans (spans_of sides) bound x other.certificate.0 v.0 is inside there v.1.1 v.1.0 accepting other.certificate.1
+  pub rejecting_accepts_none : (r : RejectData) → IsRejecting k spans bound r → NoneAccepts k others bound
+  rejecting_accepts_none r rejecting x accepting =
+      let v = share k spans others is inside there meet in
+      one_kind k others spans bound x r v.0 is there inside v.1.1 v.1.0 accepting rejecting
 
-  none_rejects : MeetsOne spans d.accepted → NoneRejects k spans bound
-  none_rejects meets =
-      let sides = sides_at d.accepted meets.0 in
-      let other = certified.accepted meets.0 meets.1.0 in
-      let there = rectangle_inside sides other.inside in
-      let v = shared_valuation k.d (spans_of sides) spans is.asked.grid.positive there.rectangle inside.rectangle meets.1.1 in
-      none_at_any_height fit k spans bound is (λ r rejecting. one_kind k (spans_of sides) spans bound other.certificate.0 r v.0 is there inside v.1.0 v.1.1 other.certificate.1 rejecting)
-
-  pub inferred_is_sound : (o : Outlook) → IsInferred d spans o → IsSound k bound spans o
-  inferred_is_sound o reported = record { accepts = λ no. none_accepts (reported.accepts.0 no); rejects = λ no. none_rejects (reported.rejects.0 no) }
+-- what is noted says what is to be looked for
+pub inferred_is_sound : (none_above none_below : CaseData → Spans → Type 0) (k : CaseData) (d : DecidedData) (spans : Spans) (o : Outlook) → AreKnown none_above none_below k d → IsInside k.root spans → IsInferred d spans o → IsSoundFor none_above none_below k spans o
+inferred_is_sound none_above none_below k d spans o known inside inferred = record {
+  accepts = λ no. let meets = inferred.accepts.0 no in known.rejected meets.0 meets.1.0 spans inside meets.1.1;
+  rejects = λ no. let meets = inferred.rejects.0 no in known.accepted meets.0 meets.1.0 spans inside meets.1.1;
+}
 
 -- ---- what is noted has its certificate
 
@@ -107,28 +101,26 @@ noted_too P sides old new noted here all i lt =
     (λ same. subst P (sym (ap (λ n. sides_at new n) same ∙ noted.1.noted)) here)
     (λ other. let at = noted.1.others i lt other in subst P (sym at.1) (all i at.0))
 
--- a rectangle was accepted, or rejected, at a precision of at most the case's
-module _ (k : CaseData) (bound : Bound) (sides : List ℤ) (old new : DecidedData) (inside : AreSidesInside k.root sides) (u : ℕ) (most : u ≤ k.w) (certified : AreCertified k bound old) where
-  pub accepted_too : AcceptingDoubles → (x : List ℤ) → IsAccepting (at k u) (spans_of sides) bound x → NotesAccepted sides old new → AreCertified k bound new
-  accepted_too doubles x accepting notes = record {
-    accepted = noted_too (HasAccepting k bound) sides old.accepted new.accepted notes.0 (record { inside = inside; certificate = accepting_at_last doubles k (spans_of sides) bound u most x accepting }) certified.accepted;
-    rejected = rw notes.1 certified.rejected;
+module _ (none_above none_below : CaseData → Spans → Type 0) (k : CaseData) (sides : List ℤ) (old new : DecidedData) (known : AreKnown none_above none_below k old) where
+  pub accepted_too : HoldsWhereMet none_below k sides → NotesAccepted sides old new → AreKnown none_above none_below k new
+  accepted_too here notes = record {
+    accepted = noted_too (HoldsWhereMet none_below k) sides old.accepted new.accepted notes.0 here known.accepted;
+    rejected = rw notes.1 known.rejected;
   }
 
-  pub rejected_too : RejectingDoubles → (r : RejectData) → IsRejecting (at k u) (spans_of sides) bound r → NotesRejected sides old new → AreCertified k bound new
-  rejected_too doubles r rejecting notes = record {
-    accepted = rw notes.1 certified.accepted;
-    rejected = noted_too (HasRejecting k bound) sides old.rejected new.rejected notes.0 (record { inside = inside; certificate = rejecting_at_last doubles k (spans_of sides) bound u most r rejecting }) certified.rejected;
+  pub rejected_too : HoldsWhereMet none_above k sides → NotesRejected sides old new → AreKnown none_above none_below k new
+  rejected_too here notes = record {
+    accepted = rw notes.1 known.accepted;
+    rejected = noted_too (HoldsWhereMet none_above k) sides old.rejected new.rejected notes.0 here known.rejected;
   }
 
-pub certified_too : AcceptingDoubles → RejectingDoubles → (k : CaseData) (v : ℕ) (bound : Bound) (sides : List ℤ) (verdict : Verdict) (old new : DecidedData) (numbers : List ℤ) (picks ranks : List ℕ) → AreSidesInside k.root sides → IsDecidedBy k v (spans_of sides) bound numbers picks ranks verdict
-    → AreCertified k bound old → Notes sides verdict old new → AreCertified k bound new
-certified_too accepting rejecting k v bound sides (Accept u) old new numbers picks ranks inside decided certified notes =
-    accepted_too k bound sides old new inside u decided.first.between.1 certified accepting numbers decided.accepting notes
-certified_too accepting rejecting k v bound sides (Reject u e h) old new numbers picks ranks inside decided certified notes =
-    rejected_too k bound sides old new inside u decided.0.first.between.1 certified rejecting _ decided.0.rejecting notes
-certified_too accepting rejecting k v bound sides Unknown old new numbers picks ranks inside decided certified notes = rw notes certified
+  -- what was told of a rectangle is noted
+  pub known_too : (above : CaseData → Spans → Pools → Type 0) (below : CaseData → Spans → Pools → ℕ → ℕ → Type 0) → AreApart above below none_above none_below k → IsInside k.root (spans_of sides)
+      → (p : Pools) (found : Option Side) → IsTold above below none_above none_below k (spans_of sides) p found → Notes sides found old new → AreKnown none_above none_below k new
+  known_too above below apart inside p (Some Above) told notes = accepted_too (λ others there meet. apart.above (spans_of sides) others p inside there meet told) notes
+  known_too above below apart inside p (Some (Below rate)) told notes = rejected_too (λ others there meet. apart.below (spans_of sides) others p rate.e rate.k inside there meet told) notes
+  known_too above below apart inside p None told notes = rw notes known
 
 -- where none is noted, nothing is said
-pub none_certified : (k : CaseData) (bound : Bound) (d : DecidedData) → AreCertified k bound (forgotten d)
-none_certified k bound d = record { accepted = λ i lt. absurd (omega (arith, lt)); rejected = λ i lt. absurd (omega (arith, lt)) }
+pub none_known : (none_above none_below : CaseData → Spans → Type 0) (k : CaseData) (d : DecidedData) → AreKnown none_above none_below k (forgotten d)
+none_known none_above none_below k d = record { accepted = λ i lt. absurd (omega (arith, lt)); rejected = λ i lt. absurd (omega (arith, lt)) }

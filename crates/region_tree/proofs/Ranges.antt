@@ -12,9 +12,9 @@ use Rattle.corner_lift.specs.Case.{CaseData, IsCase, IsInside, at}
 use Rattle.corner_lift.specs.Certificate.{IsLeastUpper}
 use Rattle.corner_lift.specs.Laws.{LowerPrecisionIsCase}
 use Rattle.corner_lift.specs.Stages.{IsGreatestLower}
-use Rattle.region_tree.specs.Decided.{IsDecidedBy, reject_of}
+use Rattle.region_tree.specs.Decided.{IsDecidedBy, IsSound, reject_of}
 use Rattle.region_tree.specs.Laws.{LeastUppersAreOne, GreatestLowersAreOne}
-use Rattle.region_tree.specs.Recent.{AgreesWith, IsSound}
+use Rattle.region_tree.specs.Recent.{AgreesWith}
 use Rattle.region_tree.specs.Right.{NoneRejects, IsOpenAt, IsOpen, IsFirst, IsAccepted, IsRejected}
 use Rattle.region_tree.specs.declared.decided.Outlook.{Outlook}
 use Rattle.region_tree.specs.declared.verdict.Verdict.{Verdict}

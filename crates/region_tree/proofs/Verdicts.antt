@@ -7,16 +7,21 @@ use Rattle.lift_grid.specs.Rectangle.{Spans}
 use Rattle.lift_grid.specs.Tree.{RejectData}
 use Rattle.lift_cert.specs.declared.bound.Bound.{Bound}
 use Rattle.lift_cert.specs.Certificate.{IsWithin, IsBeyond, NoneAccepts}
-use Rattle.corner_lift.specs.Case.{CaseData, IsCase, number}
+use Rattle.corner_lift.specs.Case.{CaseData, IsCase, IsInside, number}
 use Rattle.corner_lift.specs.Certificate.{IsUpper, IsLeastUpper}
 use Rattle.lower_cert.specs.declared.greatest.Rate.{Rate}
 use Rattle.lower_cert.specs.AnyRanks.{RanksFit}
 use Rattle.lower_cert.specs.Limit.{IsGreatestAbove, NoneIsAbove}
-use Rattle.region_tree.specs.Decided.{IsGreatestBeyond, reject_of}
+use Rattle.lift_cert.specs.Laws.{NotBothKinds}
+use Rattle.region_tree.specs.Decided.{IsDecidedIn, IsGreatestBeyond, IsToldFor, reject_of, verdict_at}
+use Rattle.region_tree.specs.declared.pools.Pools.{Pools}
+use Rattle.region_tree.specs.declared.side.Side.{Side}
+use Rattle.region_tree.specs.declared.side.Side.TheVariants.{Above, Below}
 use Rattle.region_tree.specs.Right.{IsAccepted, NoneRejects}
 use Rattle.region_tree.proofs.AnyHeight.{none_at_any_height}
+use Rattle.region_tree.proofs.Ranges.{first_alone, open_alone}
+
 -- ---- the greatest number within a bound
-use Rattle.region_tree.proofs.Ranges.{first_alone}
 
 -- q is the quotient of num times 2 ^ w by den, rounded down
 pub record IsFloor (num den w q : ℕ) : Type 0 where
@@ -89,3 +94,10 @@ module _ (k : CaseData) (ss : Spans) (bound : Bound) where
       → IfSome rate (λ r. IsGreatestAbove k ss limit (reject_of x picks ranks r.e r.k)) → IfSome rate (λ r. IsGreatestBeyond k ss bound (reject_of x picks ranks r.e r.k))
   greatest_beyond limit is beyond x picks ranks (Some r) h = beyond_at limit beyond (reject_of x picks ranks r.e r.k) is h
   greatest_beyond limit is beyond x picks ranks None h = h
+
+-- what is told of a rectangle at the case's precision, as a verdict
+pub told_is_decided : NotBothKinds → (k : CaseData) (spans : Spans) (bound : Bound) → IsCase k → IsInside k.root spans → (p : Pools) (found : Option Side) → IsToldFor k bound spans p found → IsDecidedIn k k.w spans bound p (verdict_at k.w found)
+told_is_decided one k spans bound is inside p (Some Above) told = told
+told_is_decided one k spans bound is inside p (Some (Below rate)) told =
+    (record { first = first_alone k spans bound; none = λ x accepting. one k spans bound x _ is inside accepting told.rejecting; rejecting = told.rejecting; greatest = told.greatest }, told.height)
+told_is_decided one k spans bound is inside p None told = open_alone k spans bound (record { accepts = told.0; rejects = told.1 })

@@ -7,15 +7,17 @@ use Rattle.lift_poly.specs.Polynomial.{Valuation}
 use Rattle.lift_grid.specs.Rectangle.{Spans, Inside}
 use Rattle.lift_grid.specs.Splitting.{IsSplitAxis}
 use Rattle.lift_grid.specs.Tree.{Tree, RejectData, Tiles, leaves}
-use Rattle.lift_model.specs.Model.{live}
+use Rattle.lift_model.specs.Links.{LinksData}
+use Rattle.lift_model.specs.Model.{ModelData, live}
 use Rattle.corner_lift.specs.Case.{CaseData, IsCase, IsInside, greatest_depth}
 use Rattle.corner_lift.specs.Certificate.{IsLeastUpper}
 use Rattle.corner_lift.specs.Stages.{IsGreatestLower}
 use Rattle.lift_cert.specs.declared.bound.Bound.{Bound}
 use Rattle.region_tree.specs.Nodes.{Node}
 pub use Rattle.lift_walk.specs.Laws.{RootIsAtDepth, HalvesAreDeeper, SplitAxesAreOne}
-use Rattle.region_tree.specs.Recent.{Meet}
+use Rattle.region_tree.specs.Recent.{Meet, forgotten}
 use Rattle.region_tree.specs.Right.{IsRightTree}
+use Rattle.region_tree.specs.Rooms.{LanesData, HasLanes, KeepsShape}
 use Rattle.region_tree.specs.Visits.{Walks, entries}
 use Rattle.region_tree.specs.declared.visitor.Seen.{Seen}
 
@@ -54,6 +56,24 @@ RightTreesTile = (k : CaseData) (v : ℕ) (bound : Bound) (tree : Tree) → IsCa
 -- two rectangles inside the root that meet share a valuation
 abbrev pub MeetingRectanglesShare : Type 0
 MeetingRectanglesShare = (k : CaseData) (spans others : Spans) → IsCase k → IsInside k.root spans → IsInside k.root others → Meet spans others → (v : Valuation) × (Inside k.d spans v × Inside k.d others v)
+
+-- ---- lanes
+
+-- lanes have the shape that they have
+abbrev pub ShapesStay : Type 0
+ShapesStay = (a : LanesData) → KeepsShape a a
+
+-- what keeps the shape of what keeps a shape keeps that one
+abbrev pub ShapesChain : Type 0
+ShapesChain = (a b c : LanesData) → KeepsShape a b → KeepsShape b c → KeepsShape a c
+
+-- lanes keep their shape where it is forgotten which rectangles were decided
+abbrev pub ForgettingKeepsShape : Type 0
+ForgettingKeepsShape = (a : LanesData) → KeepsShape a (record a { decided = forgotten a.decided })
+
+-- what keeps the shape of all lanes for a model are all lanes for it
+abbrev pub LanesAreKept : Type 0
+LanesAreKept = (m : ModelData) (l : LinksData) (a b : LanesData) → KeepsShape a b → HasLanes m l a → HasLanes m l b
 
 -- ---- walks
 

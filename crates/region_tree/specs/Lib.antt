@@ -2,9 +2,11 @@ pub mod Right
 pub mod Laws
 pub mod Nodes
 pub mod Visits
+pub mod Lanes
 pub mod Rooms
 pub mod Decided
 pub mod Built
 pub mod Bases
 pub mod Recent
+pub mod Sides
 pub mod Walking

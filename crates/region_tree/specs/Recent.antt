@@ -1,16 +1,13 @@
 -- The rectangles of a walk that were decided last, and what they tell of another one. At a valuation that two rectangles share, an accepting certificate of the one and a rejecting certificate of the other would tell of the same process, so there aren't both.
-use Rattle.std.specs.Prelude.{◌≡◌, true, ℕ, ◌*◌, ◌<◌, List, [], ◌∷◌, ℤ, ◌≤ℤ◌, ◌↔◌, slice_index_or, IsFalse}
+use Rattle.std.specs.Prelude.{◌≡◌, true, ℕ, ◌*◌, ◌<◌, List, [], ◌∷◌, ℤ, ◌≤ℤ◌, ◌↔◌, slice_index_or, Option, Some, None, IsFalse}
 use Rattle.lift_pool.specs.Lanes.{PoolData}
 use Rattle.lift_pool.specs.Shapes.{HasLanes}
 pub use Rattle.lift_pool.specs.Shapes.{IsSameShape}
 use Rattle.lift_grid.specs.Rectangle.{Spans, spans_of}
-use Rattle.lift_grid.specs.Tree.{RejectData}
-use Rattle.lift_cert.specs.declared.bound.Bound.{Bound}
-use Rattle.lift_cert.specs.Certificate.{IsAccepting, IsRejecting, NoneAccepts}
-use Rattle.corner_lift.specs.Case.{CaseData, AreSidesInside}
 use Rattle.lift_model.specs.Valid.{most_parameters}
-use Rattle.region_tree.specs.Right.{NoneRejects}
 use Rattle.region_tree.specs.declared.decided.Outlook.{Outlook}
+use Rattle.region_tree.specs.declared.side.Side.{Side}
+use Rattle.region_tree.specs.declared.side.Side.TheVariants.{Above, Below}
 use Rattle.region_tree.specs.declared.verdict.Verdict.{Verdict}
 use Rattle.region_tree.specs.declared.verdict.Verdict.TheVariants.{Accept, Reject, Unknown}
 
@@ -83,37 +80,15 @@ abbrev pub NotesRejected : List ℤ → DecidedData → DecidedData → Type 0
 NotesRejected sides old new = IsNoted sides old.rejected new.rejected × (new.accepted ≡ old.accepted)
 
 -- it is noted with its kind, if it is decided
-abbrev pub Notes : List ℤ → Verdict → DecidedData → DecidedData → Type 0
-Notes sides (Accept u) old new = NotesAccepted sides old new
-Notes sides (Reject u e k) old new = NotesRejected sides old new
-Notes sides Unknown old new = new ≡ old
+abbrev pub Notes : List ℤ → Option Side → DecidedData → DecidedData → Type 0
+Notes sides (Some Above) old new = NotesAccepted sides old new
+Notes sides (Some (Below rate)) old new = NotesRejected sides old new
+Notes sides None old new = new ≡ old
 
 -- what rectangles that are noted tell of another one: it isn't to be accepted exactly where it shares a valuation with one that was rejected, and not to be rejected exactly where with one that was accepted
 pub record IsInferred (d : DecidedData) (spans : Spans) (o : Outlook) : Type 0 where
   pub accepts : IsFalse o.may_accept ↔ MeetsOne spans d.rejected
   pub rejects : IsFalse o.may_reject ↔ MeetsOne spans d.accepted
-
--- ---- what it says of a case, for a bound
-
--- the sides of a rectangle inside the root that has an accepting certificate
-pub record HasAccepting (k : CaseData) (bound : Bound) (sides : List ℤ) : Type 0 where
-  pub inside : AreSidesInside k.root sides
-  pub certificate : (x : List ℤ) × IsAccepting k (spans_of sides) bound x
-
--- the sides of a rectangle inside the root that has a rejecting certificate
-pub record HasRejecting (k : CaseData) (bound : Bound) (sides : List ℤ) : Type 0 where
-  pub inside : AreSidesInside k.root sides
-  pub certificate : (r : RejectData) × IsRejecting k (spans_of sides) bound r
-
--- All rectangles that are noted have a certificate of their kind.
-pub record AreCertified (k : CaseData) (bound : Bound) (d : DecidedData) : Type 0 where
-  pub accepted : (i : ℕ) → i < d.accepted.count → HasAccepting k bound (sides_at d.accepted i)
-  pub rejected : (i : ℕ) → i < d.rejected.count → HasRejecting k bound (sides_at d.rejected i)
-
--- A certificate is left out only where the rectangle has none of its kind.
-pub record IsSound (k : CaseData) (bound : Bound) (spans : Spans) (o : Outlook) : Type 0 where
-  pub accepts : IsFalse o.may_accept → NoneAccepts k spans bound
-  pub rejects : IsFalse o.may_reject → NoneRejects k spans bound
 
 -- no certificate of the other kind is looked for
 abbrev pub AgreesWith : Verdict → Outlook → Type 0

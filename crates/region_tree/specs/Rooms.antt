@@ -1,6 +1,6 @@
 -- The room of a walk: the pools and the collapsed model that it works in, when they are made for a case, and what is left of them on the way from the root.
 use Rattle.std.specs.Prelude.{◌≡◌, ◌*◌, List, ℤ, length, Option, option_map, IfSome}
-use Rattle.lift_pool.specs.Lanes.{PoolData, last_lane}
+use Rattle.lift_pool.specs.Lanes.{last_lane}
 pub use Rattle.lift_pool.specs.Shapes.{HasLane, IsSameShape}
 use Rattle.lift_model.specs.Model.{ModelData, row_count}
 use Rattle.lift_model.specs.Links.{LinksData}
@@ -9,20 +9,10 @@ pub use Rattle.lift_walk.specs.Sides.{end_count}
 use Rattle.lift_walk.specs.Sides.{IsMadeForSides}
 use Rattle.lift_collapse.specs.Collapse.{CollapseData, IsCollapse}
 use Rattle.lift_collapse.specs.Filled.{LinkedCollapse}
-use Rattle.region_tree.specs.Recent.{DecidedData, HasAllPlaces, KeepsPlaces}
+pub use Rattle.region_tree.specs.Lanes.{LanesData}
+use Rattle.region_tree.specs.Recent.{HasAllPlaces, KeepsPlaces}
 use Rattle.region_tree.specs.declared.pools.Pools.{Pools}
-
--- What the decision of a rectangle works in: the collapsed model of the case, if it is worth one, the table of corner weights, the lanes in which vectors are found, and the rectangles of a walk that were decided last.
-pub record LanesData : Type 0 where
-  pub collapse : Option LinkedCollapse
-  pub weights : PoolData ℤ
-  pub pools : Pools
-  pub decided : DecidedData
-
--- the sides of the rectangles on the way from the root, and what the decision of each works in
-pub record RoomData : Type 0 where
-  pub sides : PoolData ℤ
-  pub lanes : LanesData
+use Rattle.region_tree.specs.declared.room.Room.{Room}
 
 -- the collapsed model alone, without links and table
 abbrev pub collapse_of : Option LinkedCollapse → Option CollapseData
@@ -44,7 +34,7 @@ pub record HasLanes (m : ModelData) (l : LinksData) (lanes : LanesData) : Type 0
   pub decided : HasAllPlaces (2 * length m.names) lanes.decided
 
 -- A room that is made for a case: each pool has one lane, and of sides one more can be taken for each depth below the root.
-pub record IsMadeFor (k : CaseData) (l : LinksData) (room : RoomData) : Type 0 where
+pub record IsMadeFor (k : CaseData) (l : LinksData) (room : Room) : Type 0 where
   pub lanes : HasLanes k.model l room.lanes
   pub sides : IsMadeForSides k room.sides
 
@@ -64,10 +54,10 @@ pub record KeepsShape (old new : LanesData) : Type 0 where
   pub decided : KeepsPlaces old.decided new.decided
 
 -- the room is as made: every pool has the shape that it had, and what its lanes hold is free, as is the table of the collapsed model
-pub record IsAsMade (old new : RoomData) : Type 0 where
+pub record IsAsMade (old new : Room) : Type 0 where
   pub sides : IsSameShape old.sides new.sides
   pub lanes : KeepsShape old.lanes new.lanes
 
 -- the ends in the last lane of sides
-abbrev pub last_sides : RoomData → List ℤ
+abbrev pub last_sides : Room → List ℤ
 last_sides room = last_lane room.sides.lanes

@@ -7,22 +7,21 @@ use Rattle.corner_lift.specs.Case.{CaseData, at}
 use Rattle.lift_cert.specs.Certificate.{IsAccepting, IsRejecting}
 use Rattle.lift_cert.specs.declared.bound.Bound.{Bound}
 use Rattle.lift_range.specs.Range.{Between}
-use Rattle.region_tree.specs.Decided.{lane, reject_in}
+use Rattle.region_tree.specs.Decided.{AreKnownFor, lane, reject_in}
 use Rattle.region_tree.specs.Nodes.{Node}
-use Rattle.region_tree.specs.Recent.{AreCertified}
 use Rattle.region_tree.specs.Right.{Decision}
 use Rattle.region_tree.specs.Rooms.{LanesData, HasLanes, KeepsShape}
 use Rattle.region_tree.specs.declared.leaf.Found.{Found}
 use Rattle.region_tree.specs.declared.leaf.Found.TheVariants.{Accepted, Rejected}
 use Rattle.region_tree.specs.declared.pools.Pools.{Pools}
 
--- The lanes are those that were made for a case, and each rectangle that is noted has its certificate; the least precision is from 1 to the case's. What else they hold is free.
+-- The lanes are those that were made for a case, and what is noted tells of other rectangles; the least precision is from 1 to the case's. What else they hold is free.
 pub record AreReady (k : CaseData) (l : LinksData) (bound : Bound) (from : ℕ) (made lanes : LanesData) : Type 0 where
   pub links : AreLinks k.model l
   pub range : Between 1 k.w from
   pub has : HasLanes k.model l lanes
   pub shape : KeepsShape made lanes
-  pub known : AreCertified k bound lanes.decided
+  pub known : AreKnownFor k bound lanes.decided
 
 -- the leaf that was found, by the certificate that stands in the lanes
 abbrev pub leaf_in : Pools → Found → Decision

@@ -3,7 +3,7 @@
 ghost use Rattle.std.specs.Prelude.{◌<◌, ◌≤◌};
 ghost use Rattle.corner_lift.specs.Case.{most_precision};
 
-use crate::decision::greatest_within;
+use crate::at_most::greatest_within;
 use lift_cert::Bound;
 
 /// Of how many precisions below one that decides an error tells.

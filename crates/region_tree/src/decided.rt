@@ -5,7 +5,7 @@ ghost use Rattle.lift_grid.specs.Rectangle.{spans_of};
 ghost use Rattle.region_tree.specs.Recent.{HasAllPlaces, IsInferred, KeepsPlaces, Notes, NotesAccepted, NotesRejected, forgotten, most_ends};
 
 use crate::recent::Recent;
-use crate::verdict::Verdict;
+use crate::side::Side;
 use std::alloc::{AllocError, Global};
 
 /// What is known of a rectangle before it is decided.
@@ -50,7 +50,7 @@ impl std::marker::Model for Decided {
 
 impl Decided {
     /// None, with places for rectangles with so many ends. The one error is that memory runs out.
-    pub fn none(alloc: Global, ends: usize) -> Result<Decided, AllocError>
+    pub(crate) fn none(alloc: Global, ends: usize) -> Result<Decided, AllocError>
         requires { ends ≤ most_ends }
         ensures { IfOk result (HasAllPlaces ends) }
     {
@@ -62,7 +62,7 @@ impl Decided {
     }
 
     /// Forgets all.
-    pub fn forget(&mut self)
+    pub(crate) fn forget(&mut self)
         ensures { self.new ≡ forgotten self.old }
     {
         self.accepted.forget();
@@ -71,7 +71,7 @@ impl Decided {
 
     /// What they tell of the rectangle with these sides. Where the last one was rejected, a rejecting certificate is to
     /// be expected.
-    pub fn outlook(&self, sides: &[i64]) -> Outlook
+    pub(crate) fn outlook(&self, sides: &[i64]) -> Outlook
         requires { HasAllPlaces (length sides.now) self.now }
         ensures { IsInferred self.now (spans_of sides.now) result }
     {
@@ -83,7 +83,7 @@ impl Decided {
     }
 
     /// Notes that the rectangle with these sides was accepted.
-    pub fn note_accepted(&mut self, sides: &[i64])
+    pub(crate) fn note_accepted(&mut self, sides: &[i64])
         requires { HasAllPlaces (length sides.now) self.old }
         ensures places { KeepsPlaces self.old self.new }
         ensures notes { NotesAccepted sides.now self.old self.new }
@@ -93,7 +93,7 @@ impl Decided {
     }
 
     /// Notes that it was rejected.
-    pub fn note_rejected(&mut self, sides: &[i64])
+    pub(crate) fn note_rejected(&mut self, sides: &[i64])
         requires { HasAllPlaces (length sides.now) self.old }
         ensures places { KeepsPlaces self.old self.new }
         ensures notes { NotesRejected sides.now self.old self.new }
@@ -102,16 +102,16 @@ impl Decided {
         self.rejects_first = true;
     }
 
-    /// Notes what was decided of it.
-    pub(crate) fn note(&mut self, sides: &[i64], verdict: Verdict)
+    /// Notes from which side it was decided, if it was.
+    pub(crate) fn note(&mut self, sides: &[i64], found: Option<Side>)
         requires { HasAllPlaces (length sides.now) self.old }
         ensures places { KeepsPlaces self.old self.new }
-        ensures notes { Notes sides.now verdict self.old self.new }
+        ensures notes { Notes sides.now found self.old self.new }
     {
-        match verdict {
-            Verdict::Accept { .. } => self.note_accepted(sides),
-            Verdict::Reject { .. } => self.note_rejected(sides),
-            Verdict::Unknown => {}
+        match found {
+            Some(Side::Above) => self.note_accepted(sides),
+            Some(Side::Below(_)) => self.note_rejected(sides),
+            None => {}
         }
     }
 }

@@ -23,7 +23,9 @@ pub struct Finder<'a> {
     pub case: &'a Case<'a>,
     /// The links of the case's model.
     pub links: &'a Links,
-    /// The table of the rectangle.
+    /// The sides of the rectangle.
+    pub sides: &'a [i64],
+    /// Its table.
     pub weights: &'a [i128],
 }
 

@@ -12,8 +12,10 @@ use crate::leaf::Found;
 use crate::room::Lanes;
 use crate::showing::{Unkept, kept};
 use crate::task::Task;
+use lift_cert::certificates_are_of_one_kind;
 use lift_range::certificates_double;
 use lift_walk::{Given, Guide};
+use lower_cert::ranks_fit;
 use std::marker::PhantomData;
 
 /// Shows a visitor the nodes of a tree that goes on from the one that a base gives.
@@ -96,6 +98,8 @@ impl<B: Base, V: Copier> Guide for Going<'_, B, V> {
         out: &mut V,
     ) -> Given<Result<(), Unkept>> {
         certificates_double();
+        certificates_are_of_one_kind();
+        ranks_fit();
         let _ = self.task.case.w();
         match base.next() {
             base::Given::Split(axis) => Given::Split(axis),

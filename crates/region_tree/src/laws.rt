@@ -2,14 +2,18 @@
 
 ghost use Rattle.region_tree.specs.Laws.{
   CalmWalksShowAll,
+  ForgettingKeepsShape,
   GreatestLowersAreOne,
   GreatestLowersExist,
+  LanesAreKept,
   LeastUppersAreOne,
   LeastUppersExist,
   MeetingRectanglesShare,
   RightTreesAreOne,
   RightTreesExist,
   RightTreesTile,
+  ShapesChain,
+  ShapesStay,
   SplitAxesAreOne,
   SplitAxesExist,
 };
@@ -78,6 +82,14 @@ pub fn right_trees_tile()
 /// Two rectangles that meet share a valuation.
 pub fn meeting_rectangles_share()
     ensures { MeetingRectanglesShare }
+{}
+
+/// Lanes that keep their shape are lanes of the same model.
+pub fn lanes_keep_their_shape()
+    ensures stays { ShapesStay }
+    ensures chain { ShapesChain }
+    ensures forgetting { ForgettingKeepsShape }
+    ensures lanes { LanesAreKept }
 {}
 
 /// A walk over a visitor that counts no fault offers the nodes of the right tree, which `build` gives,

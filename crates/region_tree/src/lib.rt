@@ -3,6 +3,7 @@
 #![tactic(auto)]
 
 mod aim;
+mod at_most;
 mod base;
 mod decided;
 mod decision;
@@ -15,7 +16,10 @@ mod precisions;
 mod recent;
 mod refining;
 mod room;
+mod search;
 mod showing;
+mod side;
+mod sought;
 mod task;
 mod tree;
 mod verdict;
@@ -23,17 +27,19 @@ mod visitor;
 mod walking;
 
 pub use base::{Base, Copier, Given};
-pub use decided::{Decided, Outlook};
-pub use decision::{decide, fill_collapse, make_table};
+pub use decision::decide;
 pub use finder::Finder;
 pub use laws::{
-    calm_walks_show_all, certificates_are_one, certificates_exist, meeting_rectangles_share,
-    right_trees_are_one, right_trees_exist, right_trees_tile,
+    calm_walks_show_all, certificates_are_one, certificates_exist, lanes_keep_their_shape,
+    meeting_rectangles_share, right_trees_are_one, right_trees_exist, right_trees_tile,
 };
 pub use lift_walk::rectangles_at_depths;
 pub use pools::Pools;
 pub use refining::refine;
-pub use room::Room;
+pub use room::{Lanes, Room};
+pub use search::Search;
+pub use side::Side;
+pub use sought::Sought;
 pub use tree::{Branch, Tree, build};
 pub use verdict::Verdict;
 pub use visitor::{Seen, Visitor};

@@ -1,17 +1,17 @@
 //! The least precision of a range that decides a rectangle.
 
 ghost use Rattle.std.specs.Prelude.{◌≡◌, length, IfSome};
-ghost use Rattle.lift_grid.specs.Rectangle.{Spans};
-ghost use Rattle.corner_lift.specs.Case.{IsInside, at};
+ghost use Rattle.lift_grid.specs.Rectangle.{spans_of};
+ghost use Rattle.corner_lift.specs.Case.{at};
 ghost use Rattle.lift_collapse.specs.Filled.{IsFilled};
 ghost use Rattle.lift_range.specs.Range.{Between};
-ghost use Rattle.region_tree.specs.Decided.{CanAsk, IsDecidedIn};
-ghost use Rattle.region_tree.specs.Recent.{AgreesWith, IsSound};
+ghost use Rattle.region_tree.specs.Decided.{CanAsk, IsDecidedIn, IsSound};
+ghost use Rattle.region_tree.specs.Recent.{AgreesWith};
 ghost use Rattle.region_tree.specs.Rooms.{HasLane, HasPools, KeepsPools};
 
 use crate::aim::{Aim, Errors};
+use crate::at_most::Question;
 use crate::decided::Outlook;
-use crate::decision::Question;
 use crate::pools::Pools;
 use crate::task::Task;
 use crate::verdict::{Verdict, is_decided};
@@ -58,16 +58,14 @@ impl Question<'_> {
         collapse: &mut Option<Collapse>,
         pools: &mut Pools,
     ) -> Verdict
-        ghost spans: { Spans }
         requires u { Between 1 self.now.task.case.now.w u }
-        requires asked { CanAsk self.now.task.case.now self.now.task.links.now spans self.now.weights.now }
-        requires inside { IsInside self.now.task.case.now.root spans }
-        requires filled { IfSome collapse.old (IsFilled self.now.task.case.now spans) }
+        requires asked { CanAsk self.now.task.case.now self.now.task.links.now (spans_of self.now.sides.now) self.now.weights.now }
+        requires filled { IfSome collapse.old (IsFilled self.now.task.case.now (spans_of self.now.sides.now)) }
         requires pools { HasPools self.now.task.case.now.model pools.old }
-        requires outlook { IsSound (at self.now.task.case.now u) self.now.task.bound spans outlook }
+        requires outlook { IsSound (at self.now.task.case.now u) self.now.task.bound (spans_of self.now.sides.now) outlook }
         ensures collapse { collapse.new ≡ collapse.old }
         ensures pools { KeepsPools pools.old pools.new }
-        ensures decided { IsDecidedIn (at self.now.task.case.now u) u spans self.now.task.bound pools.new result }
+        ensures decided { IsDecidedIn (at self.now.task.case.now u) u (spans_of self.now.sides.now) self.now.task.bound pools.new result }
     {
         let case = self.task.case.at(u);
         let question = Question {
@@ -77,6 +75,7 @@ impl Question<'_> {
                 bound: self.task.bound,
                 from: u,
             },
+            sides: self.sides,
             weights: self.weights,
         };
         question.decide_alone(outlook, collapse, pools)
@@ -85,24 +84,22 @@ impl Question<'_> {
     /// Finds the least precision from `from` on that decides the rectangle, as the case's does, and leaves its
     /// certificate in the lanes. What decides at a precision does at each greater one, with the same kind of
     /// certificate.
-    fn settle(
+    pub(crate) fn settle(
         &self,
         verdict: Verdict,
         collapse: &mut Option<Collapse>,
         pools: &mut Pools,
         errors: &mut Errors,
     ) -> Verdict
-        ghost spans: { Spans }
         requires from { Between 1 self.now.task.case.now.w self.now.task.from }
-        requires asked { CanAsk self.now.task.case.now self.now.task.links.now spans self.now.weights.now }
-        requires inside { IsInside self.now.task.case.now.root spans }
-        requires filled { IfSome collapse.old (IsFilled self.now.task.case.now spans) }
+        requires asked { CanAsk self.now.task.case.now self.now.task.links.now (spans_of self.now.sides.now) self.now.weights.now }
+        requires filled { IfSome collapse.old (IsFilled self.now.task.case.now (spans_of self.now.sides.now)) }
         requires pools { HasPools self.now.task.case.now.model pools.old }
-        requires decided { IsDecidedIn self.now.task.case.now self.now.task.case.now.w spans self.now.task.bound
+        requires decided { IsDecidedIn self.now.task.case.now self.now.task.case.now.w (spans_of self.now.sides.now) self.now.task.bound
             pools.old verdict }
         ensures collapse { collapse.new ≡ collapse.old }
         ensures pools { KeepsPools pools.old pools.new }
-        ensures decided { IsDecidedIn self.now.task.case.now self.now.task.from spans self.now.task.bound
+        ensures decided { IsDecidedIn self.now.task.case.now self.now.task.from (spans_of self.now.sides.now) self.now.task.bound
             pools.new result }
     {
         certificates_double();
@@ -139,30 +136,5 @@ impl Question<'_> {
             return found;
         }
         self.decide_at(high, outlook, collapse, pools)
-    }
-
-    /// Decides the rectangle for the precisions of the task, in the lanes. The case's own comes first: where it
-    /// doesn't decide, none does.
-    pub(crate) fn decide(
-        &self,
-        outlook: Outlook,
-        collapse: &mut Option<Collapse>,
-        pools: &mut Pools,
-        errors: &mut Errors,
-    ) -> Verdict
-        ghost spans: { Spans }
-        requires from { Between 1 self.now.task.case.now.w self.now.task.from }
-        requires asked { CanAsk self.now.task.case.now self.now.task.links.now spans self.now.weights.now }
-        requires inside { IsInside self.now.task.case.now.root spans }
-        requires filled { IfSome collapse.old (IsFilled self.now.task.case.now spans) }
-        requires pools { HasPools self.now.task.case.now.model pools.old }
-        requires outlook { IsSound self.now.task.case.now self.now.task.bound spans outlook }
-        ensures collapse { collapse.new ≡ collapse.old }
-        ensures pools { KeepsPools pools.old pools.new }
-        ensures decided { IsDecidedIn self.now.task.case.now self.now.task.from spans self.now.task.bound
-            pools.new result }
-    {
-        let verdict = self.decide_alone(outlook, collapse, pools);
-        self.settle(verdict, collapse, pools, errors)
     }
 }

@@ -30,7 +30,7 @@ pub struct Lanes {
 }
 
 impl std::marker::Model for Lanes {
-    ghost use Rattle.region_tree.specs.Rooms.{LanesData};
+    ghost use Rattle.region_tree.specs.Lanes.{LanesData};
 
     ghost Value = { LanesData };
 
@@ -44,34 +44,29 @@ impl std::marker::Model for Lanes {
 
 impl Lanes {
     /// Forgets which rectangles were decided.
-    pub(crate) fn forget(&mut self)
+    pub fn forget(&mut self)
         ensures { self.new ≡ record self.old { decided = forgotten self.old.decided } }
     {
         self.decided.forget();
+    }
+
+    /// The lanes in which vectors are found.
+    pub fn pools(&self) -> &Pools
+        ensures { result.now ≡ self.now.pools }
+    {
+        &self.pools
     }
 }
 
 /// All memory that a walk over the tree of a case needs.
 ///
-/// A room is seen as its parts. What the lanes and the
-/// collapsed model's table hold between two walks is free, and so is what is noted.
+/// What the lanes and the collapsed model's table hold between two walks is free, and so is what is noted.
 #[derive(Drop)]
 pub struct Room {
     /// The sides of the rectangles on the way from the root.
-    pub(crate) sides: Pool<i64>,
+    pub sides: Pool<i64>,
     /// What the decision of each of them works in.
-    pub(crate) lanes: Lanes,
-}
-
-impl std::marker::Model for Room {
-    ghost use Rattle.region_tree.specs.Rooms.{RoomData};
-
-    ghost Value = { RoomData };
-
-    ghost view = { λ r. record {
-      sides = r.sides;
-      lanes = r.lanes;
-    } };
+    pub lanes: Lanes,
 }
 
 /// Places for the rectangles of a walk that are decided last.

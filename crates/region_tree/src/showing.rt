@@ -9,7 +9,7 @@ ghost use Rattle.lift_range.specs.Range.{Between};
 ghost use Rattle.lift_walk.specs.Halved.{Halved};
 ghost use Rattle.lift_walk.specs.Shown.{Took};
 ghost use Rattle.region_tree.specs.Nodes.Node.{split, unknown};
-ghost use Rattle.region_tree.specs.Recent.{AreCertified};
+ghost use Rattle.region_tree.specs.Decided.{AreKnownFor};
 ghost use Rattle.region_tree.specs.Right.{Decides, Decision, IsOpen};
 ghost use Rattle.region_tree.specs.Rooms.{HasLanes, KeepsShape};
 ghost use Rattle.region_tree.specs.Walking.{AreReady, IsVisitorOf, VisitorData, leaf_in, node_of};
@@ -55,14 +55,15 @@ impl Task<'_> {
         requires lanes { HasLanes self.now.case.now.model self.now.links.now lanes.old }
         requires sides { AreSidesInside self.now.case.now.root sides.now }
         requires from { Between 1 self.now.case.now.w self.now.from }
-        requires known { AreCertified self.now.case.now self.now.bound lanes.old.decided }
+        requires known { AreKnownFor self.now.case.now self.now.bound lanes.old.decided }
         ensures shape { KeepsShape lanes.old lanes.new }
-        ensures known { AreCertified self.now.case.now self.now.bound lanes.new.decided }
+        ensures known { AreKnownFor self.now.case.now self.now.bound lanes.new.decided }
         ensures decided { MatchOption result (IsOpen self.now.case.now self.now.from (spans_of sides.now) self.now.bound)
             (λ found. Decides self.now.case.now self.now.from self.now.bound (spans_of sides.now)
             (leaf_in lanes.new.pools found)) }
     {
-        match self.decide_next(lanes, sides) {
+        let found = self.search().decide(lanes, sides);
+        match self.settle(lanes, sides, found) {
             Verdict::Accept { u } => Some(Found::Accepted(u)),
             Verdict::Reject { u, e, k } => Some(Found::Rejected(Rejection { u, e, k })),
             Verdict::Unknown => None,

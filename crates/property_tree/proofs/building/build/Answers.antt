@@ -1,4 +1,5 @@
 use Rattle.property_tree.proofs.Single.{decided_not_open}
+use Rattle.property_tree.proofs.Ready.{ready_at_first}
 use Rattle.property_tree.proofs.building.build.Goals as goal
 
 pub build_tree-requires-clause-leaves : goal.build_tree-requires-clause-leaves
@@ -8,3 +9,9 @@ build_tree-requires-clause-leaves c =
       one = λ spans l m inside a b. c.leaves_are_one.ensures k c.args.op c.args.bound spans l m c.w.ensures.case inside a b;
       none = λ spans l inside. decided_not_open k c.args.op c.args.bound spans l;
     }
+
+pub build_tree-requires-clause-ready : goal.build_tree-requires-clause-ready
+build_tree-requires-clause-ready c =
+    let k = c.args.case.now in
+    let law = c.lanes_keep_their_shape.ensures in
+    rw c.forget.ensures (ready_at_first law.lanes law.chain k c.args.links.now c.args.op c.args.bound law.forgetting _ law.stays c.requires c.in_ok-room.ensures.made.lanes)

@@ -1,7 +1,6 @@
-use Rattle.std.proofs.Common.{[], refl, ap, sym, subst, arith}
+use Rattle.std.proofs.Common.{[], refl, arith}
 use Rattle.lift_walk.specs.Halved.{Halved, IsRightBy}
 use Rattle.region_tree.specs.Right.{Decides, IsOpen}
-use Rattle.region_tree.specs.Rooms.{RoomData, HasLanes, IsAsMade}
 use Rattle.region_tree.proofs.Goings.{kept_since, ready_at_first}
 use Rattle.region_tree.proofs.Shown.{leaves_are_one, shown}
 use Rattle.region_tree.proofs.walking.walk.Goals as goal
@@ -12,8 +11,7 @@ walk-requires-clause-leaves g c =
 
 pub walk-requires-clause-ready : goal.walk-requires-clause-ready
 walk-requires-clause-ready g c =
-    let has = subst (HasLanes c.args.case.now.model c.args.links.now) (sym (ap (λ (r : RoomData). r.lanes) c.room.view_is)) c.requires.made.lanes in
-    rw c.forget.ensures (ready_at_first c.args.case.now c.args.links.now c.args.bound c.args.from c.room.inside.lanes c.requires.links c.requires.from has)
+    rw c.forget.ensures (ready_at_first c.args.case.now c.args.links.now c.args.bound c.args.from c.args.room.now.lanes c.requires.links c.requires.from c.requires.made.lanes)
 
 pub walk-requires-clause-base : goal.walk-requires-clause-base
 walk-requires-clause-base g c = (Halved.unknown, ([], record { ahead = tt; none = λ _. refl; base = omega arith }))
@@ -26,5 +24,7 @@ returns-clause-walks g c =
 
 pub returns-clause-room : goal.returns-clause-room
 returns-clause-room g c =
-    let kept = kept_since c.args.case.now c.args.links.now c.args.bound c.args.from c.room.inside.lanes c.walk.new.room (rw c.forget.ensures at c.walk.ensures.ready) in
-    subst (λ (old : RoomData). IsAsMade old (record { sides = c.walk.new.sides; lanes = c.walk.new.room })) c.room.view_is (record { sides = c.walk.ensures.sides; lanes = kept })
+    record {
+      sides = c.walk.ensures.sides;
+      lanes = kept_since c.args.case.now c.args.links.now c.args.bound c.args.from c.args.room.now.lanes c.walk.new.room (rw c.forget.ensures at c.walk.ensures.ready);
+    }

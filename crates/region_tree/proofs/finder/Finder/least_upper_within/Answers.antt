@@ -1,5 +1,5 @@
 use Rattle.std.proofs.Common.{length, ap, ◌∙◌, to_z-of_z, arith}
-use Rattle.region_tree.proofs.Lanes.{lane_is, lane_kept, one_of, same_pool}
+use Rattle.region_tree.proofs.Shapes.{lane_is, lane_kept, one_of, same_pool}
 use Rattle.region_tree.proofs.finder.Finder.least_upper_within.Goals as goal
 
 pub least_upper-requires : goal.least_upper-requires

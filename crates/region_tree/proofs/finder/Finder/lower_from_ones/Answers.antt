@@ -1,5 +1,5 @@
 use Rattle.std.proofs.Common.{length, ap, ◌∙◌, to_z-of_z, arith}
-use Rattle.region_tree.proofs.Lanes.{lane_is, lane_kept, one_of}
+use Rattle.region_tree.proofs.Shapes.{lane_is, lane_kept, one_of}
 use Rattle.region_tree.proofs.finder.Finder.lower_from_ones.Goals as goal
 
 pub greatest_reject_above-requires : goal.greatest_reject_above-requires

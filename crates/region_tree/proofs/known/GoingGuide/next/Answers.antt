@@ -6,7 +6,7 @@ use Rattle.region_tree.specs.Rooms.{LanesData}
 use Rattle.region_tree.specs.Walking.{AreReady}
 use Rattle.region_tree.proofs.Ahead.{split_given, accept_given, reject_given, unknown_given, accept_noted, reject_noted}
 use Rattle.region_tree.proofs.Goings.{same_shape, shape_with, still_ready}
-use Rattle.region_tree.proofs.Lanes.{inside_ends}
+use Rattle.region_tree.proofs.Shapes.{inside_ends}
 use Rattle.region_tree.proofs.Shown.{took, stands}
 use Rattle.region_tree.proofs.known.GoingGuide.next.Goals as goal
 
@@ -46,8 +46,8 @@ returns-in-Accept-clause-ready g c made ready =
     let places : KeepsPlaces room.decided noted = rw decided at c.note_accepted.ensures.places in
     let notes : NotesAccepted c.args.sides.now room.decided noted = rw decided at c.note_accepted.ensures.notes in
     let ahead = c.requires.ahead in
-    let known = accept_noted g.B.Base.is_ahead g.B.Base.bytes (g.B.Base.entry c.args.base.now) c.args.base.now c.next.new.self k task.bound c.args.sides.now c.requires.sides room.decided noted ready.known
-    c.certificates_double.ensures.accepting c.in-Accept.ensures.gives ahead.0 ahead.1.0 ahead.1.1.0.0 ahead.1.1.1 notes in
+    let known = accept_noted g.B.Base.is_ahead g.B.Base.bytes (g.B.Base.entry c.args.base.now) c.args.base.now c.next.new.self c.certificates_are_of_one_kind.ensures.shared k c.w.ensures.case task.bound c.args.sides.now c.requires.sides room.decided noted ready.known
+    c.certificates_double.ensures.accepting c.ranks_fit.ensures.any c.in-Accept.ensures.gives ahead.0 ahead.1.0 ahead.1.1.0.0 ahead.1.1.1 notes in
     let after : LanesData = record room { decided = noted } in
     let still : AreReady k task.links.now task.bound task.from made after = still_ready k task.links.now task.bound task.from made room after (shape_with room room noted (same_shape room) places) known ready in
     subst (λ l. AreReady k task.links.now task.bound task.from made l) (sym (ap (λ (l : LanesData). let x : LanesData = record l { decided = noted } in x) c.room.view_is)) still
@@ -77,7 +77,7 @@ returns-in-Reject-clause-ready g c made ready =
     let places : KeepsPlaces room.decided noted = rw decided at c.note_rejected.ensures.places in
     let notes : NotesRejected c.args.sides.now room.decided noted = rw decided at c.note_rejected.ensures.notes in
     let ahead = c.requires.ahead in
-    let known = reject_noted g.B.Base.is_ahead g.B.Base.bytes (g.B.Base.entry c.args.base.now) c.args.base.now c.next.new.self k task.bound c.args.sides.now c.requires.sides room.decided noted ready.known
+    let known = reject_noted g.B.Base.is_ahead g.B.Base.bytes (g.B.Base.entry c.args.base.now) c.args.base.now c.next.new.self c.certificates_are_of_one_kind.ensures.shared k c.w.ensures.case task.bound c.args.sides.now c.requires.sides room.decided noted ready.known
     c.certificates_double.ensures.rejecting c.in-Reject.ensures.gives ahead.0 ahead.1.0 ahead.1.1.0.0 ahead.1.1.1 notes in
     let after : LanesData = record room { decided = noted } in
     let still : AreReady k task.links.now task.bound task.from made after = still_ready k task.links.now task.bound task.from made room after (shape_with room room noted (same_shape room) places) known ready in

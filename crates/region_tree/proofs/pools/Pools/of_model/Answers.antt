@@ -1,5 +1,5 @@
 use Rattle.std.proofs.Common.{◌*◌, ◌∷◌, [], ◌∙◌, ap, pos}
-use Rattle.region_tree.proofs.Lanes.{lane_filled}
+use Rattle.region_tree.proofs.Shapes.{lane_filled}
 use Rattle.region_tree.proofs.pools.Pools.of_model.Goals as goal
 
 pub returns : goal.returns

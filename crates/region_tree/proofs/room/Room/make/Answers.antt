@@ -1,6 +1,6 @@
 use Rattle.std.proofs.Common.{◌∷◌, [], ◌∙◌, ap, pos}
 use Rattle.region_tree.proofs.Found.{found_of}
-use Rattle.region_tree.proofs.Lanes.{lane_filled}
+use Rattle.region_tree.proofs.Shapes.{lane_filled}
 use Rattle.region_tree.proofs.room.Room.make.Goals as goal
 
 pub returns-clause-made : goal.returns-clause-made

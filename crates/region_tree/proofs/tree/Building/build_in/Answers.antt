@@ -1,7 +1,6 @@
-use Rattle.std.proofs.Common.{[], refl, ap, sym, subst, arith}
+use Rattle.std.proofs.Common.{[], refl, arith}
 use Rattle.lift_walk.specs.Halved.{Halved}
 use Rattle.region_tree.specs.Built.{tree_of}
-use Rattle.region_tree.specs.Rooms.{RoomData, HasLanes}
 use Rattle.region_tree.proofs.Goings.{ready_at_first}
 use Rattle.region_tree.proofs.Shown.{leaves_are_one, right_built}
 use Rattle.region_tree.proofs.tree.Building.build_in.Goals as goal
@@ -14,8 +13,7 @@ walk-requires-clause-leaves c =
 pub walk-requires-clause-ready : goal.walk-requires-clause-ready
 walk-requires-clause-ready c =
     let task = c.args.self.now.task in
-    let has = subst (HasLanes task.case.now.model task.links.now) (sym (ap (λ (r : RoomData). r.lanes) c.room.view_is)) c.requires.made.lanes in
-    rw c.forget.ensures (ready_at_first task.case.now task.links.now task.bound task.from c.room.inside.lanes c.requires.links c.requires.from has)
+    rw c.forget.ensures (ready_at_first task.case.now task.links.now task.bound task.from c.args.room.now.lanes c.requires.links c.requires.from c.requires.made.lanes)
 
 pub walk-requires-clause-base : goal.walk-requires-clause-base
 walk-requires-clause-base c = (Halved.unknown, ([], record { ahead = tt; none = λ _. refl; base = omega arith }))

@@ -1,5 +1,0 @@
-use Rattle.lift_grid.specs.Rectangle.{spans_of}
-use Rattle.property_tree.proofs.question.Question.decide.Given as goal
-
-abbrev pub ghost-decide_by : goal.ghost-decide_by
-ghost-decide_by a = spans_of a.sides.now
