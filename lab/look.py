@@ -1,9 +1,10 @@
 #!/usr/bin/env python3
 """Looks at a page of `plift-lab view` in headless Chromium:  python3 lab/look.py PAGE [--pictures PREFIX]
 
-Tells how long it took from the start of loading until the picture was drawn, uses the page by keyboard and by pointer
-and says what it tells then; with --pictures it also writes PNGs at three sizes, light and dark. Needs `chromium`;
-it isn't a part of the tests.
+Tells how long it took from the start of loading until the picture was drawn and how long a leaf under the pointer
+takes, uses the page by keyboard, by pointer and on a narrow screen by touch, and says what it tells then; with
+--pictures it also writes PNGs at both sizes, light and dark. Ends with status 1 where a text is cut or lies over
+another one. Needs `chromium`; tests use it where it is installed.
 """
 
 from __future__ import annotations
@@ -28,7 +29,38 @@ SLIDE = '''(() => {
 })()'''
 ORDER = '''[...document.querySelectorAll("button, canvas[tabindex], select, input, summary")]
     .map((one) => one.id || one.tagName).join(" ")'''
-SIZES = (('wide', 1440, 900), ('middle', 900, 1100), ('narrow', 390, 844))
+CUT = '''(() => {
+    const beyond = (one) => one.scrollWidth > one.clientWidth + 1 || one.getBoundingClientRect().right > innerWidth + 1;
+    const found = [...document.querySelectorAll("body *")]
+        .filter((one) => one.clientWidth && getComputedStyle(one).display !== "inline" && beyond(one))
+        .map((one) => `${one.tagName} ${one.id} ${one.textContent.slice(0, 40)}`);
+    const { context, xTicks } = plot.layout(), { left, width } = plot.area, [from, to] = plot.view.x;
+    let free = 0;
+    for (const { units, text } of xTicks) {
+        const place = left + (units - from) / (to - from) * width, half = context.measureText(text).width / 2;
+        if (place - half < free || place + half > plot.canvas.clientWidth) found.push(`tick ${text}`);
+        free = place + half + 4;
+    }
+    redraw();
+    return found;
+})()'''
+HOVER = '''(() => {
+    const picture = byId("picture"), box = picture.getBoundingClientRect(), took = [];
+    for (let place = 0; place < 200; place++) {
+        const clientX = box.x + box.width * (place * 37 % 200) / 200;
+        const clientY = box.y + box.height * (place * 91 % 200) / 200;
+        const start = performance.now();
+        picture.dispatchEvent(new PointerEvent("pointermove", { clientX, clientY }));
+        void byId("leaf").offsetHeight;
+        took.push(performance.now() - start);
+    }
+    took.sort((one, other) => one - other);
+    return `${took[100].toFixed(1)} ms, ${took[199].toFixed(1)} ms at most`;
+})()'''
+SIZES = (('wide', 1280, 900), ('narrow', 390, 844))
+TITLE = 'byId("leaf-title").textContent'
+VIEW = 'JSON.stringify(plot.view)'
+Place = tuple[float, float]
 
 
 class Browser:
@@ -101,7 +133,7 @@ class Browser:
 
     def wait(self, script: str) -> None:
         """Until a script is true."""
-        for _ in range(600):
+        for _ in range(3000):
             if self.tell('location.href !== "about:blank" && !!(%s)' % script):
                 return
             time.sleep(0.05)
@@ -117,9 +149,16 @@ class Browser:
         """Moves or presses."""
         self.call('Input.dispatchMouseEvent', type=kind, x=x, y=y, **more)
 
+    def fingers(self, kind: str, *places: Place) -> None:
+        """Puts fingers on the screen, moves or lifts them."""
+        self.call('Input.dispatchTouchEvent', type=kind, touchPoints=[{'x': x, 'y': y} for x, y in places])
+
     def size(self, width: int, height: int, is_dark: bool) -> None:
-        """How large the window is, and whether the system is dark."""
-        self.call('Emulation.setDeviceMetricsOverride', width=width, height=height, deviceScaleFactor=1, mobile=False)
+        """How large the window is, and whether the system is dark; a narrow one is touched."""
+        by_touch = width < 600
+        screen = {'width': width, 'height': height, 'deviceScaleFactor': 1 + by_touch, 'mobile': by_touch}
+        self.call('Emulation.setDeviceMetricsOverride', **screen)
+        self.call('Emulation.setTouchEmulationEnabled', enabled=by_touch, maxTouchPoints=2)
         scheme = {'name': 'prefers-color-scheme', 'value': 'dark' if is_dark else 'light'}
         self.call('Emulation.setEmulatedMedia', features=[scheme])
 
@@ -134,33 +173,69 @@ class Browser:
         self._process.wait()
 
 
-def point(browser: Browser) -> tuple[float, float]:
-    """Points at a leaf, and tells where."""
+def cut(browser: Browser) -> list[str]:
+    """The texts that are cut, or that lie over another one."""
+    return list(browser.tell(CUT))
+
+
+def place(browser: Browser) -> Place:
+    """A place in the picture."""
     box = json.loads(browser.tell('JSON.stringify(document.getElementById("picture").getBoundingClientRect())'))
-    x, y = box['x'] + box['width'] * 0.6, box['y'] + box['height'] * 0.4
+    return box['x'] + box['width'] * 0.6, box['y'] + box['height'] * 0.4
+
+
+def point(browser: Browser) -> Place:
+    """Points at a leaf, and tells where."""
+    x, y = place(browser)
     browser.mouse('mouseMoved', x, y)
     return x, y
 
 
+def tap(browser: Browser) -> str:
+    """Taps at a leaf, and tells what stands above it."""
+    at = place(browser)
+    browser.fingers('touchStart', at)
+    browser.fingers('touchEnd')
+    time.sleep(0.5)
+    return str(browser.tell(TITLE))
+
+
+def touch(browser: Browser) -> Iterator[tuple[str, Any]]:
+    """Uses the page by touch."""
+    yield 'tap', tap(browser)
+    told = 'byId("leaf").firstElementChild.getBoundingClientRect()'
+    yield 'is on the screen', browser.tell('%s.bottom <= innerHeight' % told)
+    yield 'has the keys', browser.tell('document.activeElement.id')
+    yield 'tap again', tap(browser)
+    x, y = place(browser)
+    browser.fingers('touchStart', (x - 30, y), (x + 30, y))
+    browser.fingers('touchMove', (x - 90, y), (x + 90, y))
+    browser.fingers('touchEnd')
+    yield 'two fingers', browser.tell(VIEW)
+    browser.fingers('touchStart', (x, y))
+    for step in range(1, 6):
+        browser.fingers('touchMove', (x - 12 * step, y))
+    browser.fingers('touchEnd')
+    yield 'drag', browser.tell(VIEW)
+
+
 def use(browser: Browser) -> Iterator[tuple[str, Any]]:
     """Uses the page by keyboard and by pointer; each line tells what was done and what the page says."""
-    leaf = 'document.getElementById("leaf-title").textContent'
-    view = 'JSON.stringify(plot.view)'
     browser.tell('document.getElementById("picture").focus()')
     for key in ('ArrowRight', 'ArrowUp', 'ArrowLeft', 'ArrowDown', 'Enter', 'Escape'):
         browser.key(key)
-        yield 'key %s' % key, browser.tell(leaf)
+        yield 'key %s' % key, browser.tell(TITLE)
     for key in ('+', '+', '-', '0'):
         browser.key(key)
-        yield 'key %s' % key, browser.tell(view)
+        yield 'key %s' % key, browser.tell(VIEW)
     x, y = point(browser)
     yield 'pointer', browser.tell('document.getElementById("leaf").innerText').replace('\n', ' | ')[:300]
     browser.mouse('mouseWheel', x, y, deltaX=0, deltaY=-300)
-    yield 'wheel', browser.tell(view)
+    yield 'wheel', browser.tell(VIEW)
     browser.mouse('mousePressed', x, y, button='left', buttons=1, clickCount=1)
     browser.mouse('mouseMoved', x + 60, y + 30, button='left', buttons=1)
     browser.mouse('mouseReleased', x + 60, y + 30, button='left', clickCount=1)
-    yield 'drag', browser.tell(view)
+    yield 'drag', browser.tell(VIEW)
     for slider in range(browser.tell('document.querySelectorAll("input[type=range]").length')):
         browser.tell(SLIDE % slider)
         time.sleep(0.3)
@@ -179,36 +254,42 @@ def scratch() -> Iterator[str]:
         shutil.rmtree(folder, ignore_errors=True)
 
 
-def main() -> None:
+def main() -> int:
     """Prints the milliseconds of three loads, and what the page says when it is used; writes the pictures if asked."""
     words = argparse.ArgumentParser(description=__doc__, formatter_class=argparse.RawDescriptionHelpFormatter)
     words.add_argument('page')
     words.add_argument('--pictures', metavar='PREFIX')
     given = words.parse_args()
-    url = Path(given.page).resolve().as_uri()
+    url, wrong = Path(given.page).resolve().as_uri(), 0
     with scratch() as folder:
         browser = Browser(folder)
         browser.call('Page.enable')
-        browser.size(1440, 900, False)
+        browser.size(*SIZES[0][1:], False)
         for _ in range(3):
             browser.open(url)
             print('drawn %s ms after the start of loading' % browser.tell('document.documentElement.dataset.drawn'))
             browser.call('Page.navigate', url='about:blank')
         browser.open(url)
+        print('a leaf under the pointer: %s' % browser.tell(HOVER))
         for what, told in use(browser):
             print('%s: %s' % (what, told))
-        for name, width, height in SIZES if given.pictures else ():
+        for name, width, height in SIZES:
             for is_dark in (False, True):
                 browser.size(width, height, is_dark)
                 browser.open(url)
-                point(browser)
+                tap(browser) if name == 'narrow' else point(browser)
                 time.sleep(0.5)
-                wide = browser.tell('document.documentElement.scrollWidth')
-                if wide > width:
-                    print('%s: wider than its window: %s' % (name, wide))
-                browser.picture('%s-%s-%s.png' % (given.pictures, name, 'dark' if is_dark else 'light'))
+                for text in cut(browser):
+                    wrong = 1
+                    print('%s: cut: %s' % (name, text))
+                if given.pictures:
+                    browser.picture('%s-%s-%s.png' % (given.pictures, name, 'dark' if is_dark else 'light'))
+        browser.open(url)
+        for what, told in touch(browser):
+            print('touch, %s: %s' % (what, told))
         browser.close()
+    return wrong
 
 
 if __name__ == '__main__':
-    main()
+    sys.exit(main())

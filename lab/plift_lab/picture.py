@@ -8,7 +8,7 @@ from typing import Dict, List, Optional, Tuple
 
 from .faults import Fault
 from .report import ACCEPT, KINDS, PAST, REJECT, UNKNOWN, Leaf, Report, shares_text
-from .values import exact, near
+from .values import exact, near, read_number
 
 WIDTH, LEFT, TOP, SIDE, BAR = 720, 110, 118, 560, 90
 CANVAS, BORDERED = 2**20, 2**14
@@ -23,7 +23,11 @@ LOOKS = {
     UNKNOWN: ('#ffffff', '<circle cx="10000" cy="10000" r="2500" fill="#555"/>'),
 }
 """Of a kind the colour, and what is drawn over it, so that kinds are told apart in grey, too."""
+MOST_DIGITS = 12
+"""Of a number at a mark."""
 Axes = Tuple[Optional[int], Optional[int]]
+Mark = Tuple[Fraction, Fraction, str]
+"""Where it stands, in parts of the axis; its number, and how that is shown."""
 
 
 def axes_of(report: Report, x: Optional[str] = None, y: Optional[str] = None) -> Axes:
@@ -47,6 +51,7 @@ def svg(report: Report, x: Optional[str] = None, y: Optional[str] = None) -> str
     cuts = _cuts(report, axes)
     side = BAR if axes[1] is None else SIDE
     title, shares = escape(report.verdict_line), escape(shares_text(report))
+    marks = [_marks(report, axis) for axis in axes]
     below = TOP + side + 62
     lines = [
         '<svg xmlns="http://www.w3.org/2000/svg" viewBox="0 0 %d %d" role="img" font-family="sans-serif" '
@@ -59,9 +64,11 @@ def svg(report: Report, x: Optional[str] = None, y: Optional[str] = None) -> str
         '<text x="20" y="50">%s</text>' % escape('%s: %s' % (report.verdict, shares)),
         *_legend(),
         *_field(report, axes, cuts, side),
-        *_axis_across(report, axes[0], TOP + side),
-        *_axis_up(report, axes[1], side),
+        *_axis_across(report, axes[0], marks[0], TOP + side),
+        *_axis_up(report, axes[1], marks[1], side),
     ]
+    if any(read_number(text) != value for _, value, text in marks[0] + marks[1]):
+        lines.append('<text x="20" y="%d" font-size="11">ticks are rounded</text>' % (TOP + side + 42))
     for place, (parameter, end) in enumerate(cuts.items()):
         name, value = report.parameters[parameter], report.user_value(parameter, end)
         lines.append('<text x="20" y="%d">at %s = %s</text>' % (below + 10 + 20 * place, name, exact(value)))
@@ -94,28 +101,28 @@ def _legend() -> List[str]:
     return lines
 
 
-def _band(report: Report, axis: Optional[int], leaf: Leaf) -> Tuple[int, int]:
-    """From where to where a leaf reaches on an axis."""
+def _band(report: Report, axis: Optional[int], leaf: Leaf, whole: int) -> Tuple[int, int]:
+    """From where to where a leaf reaches on an axis; all over the field where the axis has no parameter."""
     if axis is None:
-        return 0, CANVAS
+        return 0, whole
     low, high = report.box[2 * axis : 2 * axis + 2]
     return tuple((end - low) * CANVAS // (high - low) for end in leaf.ends[2 * axis : 2 * axis + 2])  # type: ignore
 
 
 def _field(report: Report, axes: Axes, cuts: Dict[int, Fraction], side: int) -> List[str]:
     paths: Dict[str, List[str]] = {kind: [] for kind in KINDS}
-    borders = []
+    borders, tall = [], CANVAS * side // SIDE
     for leaf in report.leaves():
         if not all(_meets(report, leaf, parameter, end) for parameter, end in cuts.items()):
             continue
-        (left, right), (low, high) = _band(report, axes[0], leaf), _band(report, axes[1], leaf)
-        outline = 'M%d %dH%dV%dH%dz' % (left, CANVAS - low, right, CANVAS - high, left)
+        (left, right), (low, high) = _band(report, axes[0], leaf, CANVAS), _band(report, axes[1], leaf, tall)
+        outline = 'M%d %dH%dV%dH%dz' % (left, tall - low, right, tall - high, left)
         paths[leaf.kind].append(outline)
         if min(right - left, high - low) >= BORDERED:
             borders.append(outline)
     lines = [
         '<svg x="%d" y="%d" width="%d" height="%d" viewBox="0 0 %d %d" preserveAspectRatio="none">'
-        % (LEFT, TOP, SIDE, side, CANVAS, CANVAS)
+        % (LEFT, TOP, SIDE, side, CANVAS, tall)
     ]
     lines += ['<path fill="url(#%s)" d="%s"/>' % (PAST[kind], ''.join(path)) for kind, path in paths.items() if path]
     lines.append(
@@ -131,18 +138,32 @@ def _meets(report: Report, leaf: Leaf, parameter: int, end: Fraction) -> bool:
     return low <= end and (end < high or high == report.box[2 * parameter + 1])
 
 
-def _marks(report: Report, axis: int) -> List[Tuple[Fraction, str]]:
-    """Where marks stand, in parts of the axis, and their numbers: exact ones, rounded where they are long."""
+def _marks(report: Report, axis: Optional[int]) -> List[Mark]:
+    """Where marks stand, in parts of the axis, and their numbers: exact ones, rounded where they are long; none where
+    more digits tell them apart than have room."""
+    if axis is None:
+        return []
     low, high = (Fraction(end) for end in report.box[2 * axis : 2 * axis + 2])
     quarters = [Fraction(quarter, 4) for quarter in range(5)]
-    return [(part, near(report.user_value(axis, low + (high - low) * part), 5)) for part in quarters]
+    values = [report.user_value(axis, low + (high - low) * part) for part in quarters]
+    for digits in range(5, MOST_DIGITS + 1):
+        texts = [near(value, digits) for value in values]
+        if len(set(texts)) == len(texts):
+            return list(zip(quarters, values, texts))
+    return []
 
 
-def _axis_across(report: Report, axis: Optional[int], bottom: int) -> List[str]:
+def _name(report: Report, axis: int, marks: List[Mark]) -> str:
+    """What an axis is called: its parameter, which has its exact interval where there are no marks."""
+    low, high = (exact(report.user_value(axis, Fraction(end))) for end in report.box[2 * axis : 2 * axis + 2])
+    return report.parameters[axis] if marks else '%s from %s to %s' % (report.parameters[axis], low, high)
+
+
+def _axis_across(report: Report, axis: Optional[int], marks: List[Mark], bottom: int) -> List[str]:
     if axis is None:
         return []
     lines = ['<g font-size="12" text-anchor="middle">']
-    for part, text in _marks(report, axis):
+    for part, _, text in marks:
         across = LEFT + float(part) * SIDE
         lines.append(
             '<path d="M%g %dv6" stroke="#000"/><text x="%g" y="%d">%s</text>'
@@ -151,19 +172,19 @@ def _axis_across(report: Report, axis: Optional[int], bottom: int) -> List[str]:
     name = '<text x="%d" y="%d" text-anchor="middle">%s</text>' % (
         LEFT + SIDE // 2,
         bottom + 42,
-        report.parameters[axis],
+        _name(report, axis, marks),
     )
     return [*lines, '</g>', name]
 
 
-def _axis_up(report: Report, axis: Optional[int], side: int) -> List[str]:
+def _axis_up(report: Report, axis: Optional[int], marks: List[Mark], side: int) -> List[str]:
     if axis is None:
         return []
     lines = ['<g font-size="12" text-anchor="end">']
-    for part, text in _marks(report, axis):
+    for part, _, text in marks:
         down = TOP + side - float(part) * side
         lines.append(
             '<path d="M%d %gh-6" stroke="#000"/><text x="%d" y="%g">%s</text>' % (LEFT, down, LEFT - 10, down + 4, text)
         )
-    name = '<text x="20" y="%d">%s</text>' % (TOP - 6, report.parameters[axis])
+    name = '<text x="20" y="%d">%s</text>' % (TOP - 6, _name(report, axis, marks))
     return [*lines, '</g>', name]

@@ -32,12 +32,33 @@ class Pages(InFolder):
         self.assertIn('<title>P( reach goal ) &lt;= 1/40</title>', page)
         self.assertEqual(data['choosing'], [[state, '', ['0', '1']] for state in (0, 1, 2)])
 
+    def test_no_line_ends_before_a_sign_of_percent(self) -> None:
+        page, data = self.data(TREE)
+        self.assertEqual(data['shares'][0]['percent'], '6.25\u00a0%')
+        self.assertIn('(accepted 6.25\u00a0%, rejected 75\u00a0%, unknown 18.75\u00a0%)</p>', page)
+
     def test_a_picture_names_the_label(self) -> None:
         for words, label in (((TREE, '--model', RETRY), 'lost'), ((TREE,), 'goal')):
             status, picture, fault = run('picture', *words)
             self.assertEqual((status, fault), (0, ''))
             self.assertIn('<title>mixed: P( reach %s ) &lt;= 1/40' % label, picture)
             self.assertIn('font-weight="bold">P( reach %s ) &lt;= 1/40</text>' % label, picture)
+
+    def test_ticks_of_a_picture(self) -> None:
+        for interval, told, is_rounded in (
+            ('1/10..1/2', ['>0.2<', '>0.3<'], False),
+            ('1/3..2/3', ['>0.33333<', '>0.5<'], True),
+            ('0.123456..0.123457', ['>0.123456<', '>0.1234562<', '>0.123457<'], True),
+            ('0.123456789012..0.1234567890121', ['>p from 30864197253/250000000000 to 1234567890121/'], False),
+        ):
+            report = str(self.folder / 'a.report')
+            words = ('--goal', 'lost', '--bound', '1/40', '--region', 'p=%s,q=1/4' % interval, '--report', report)
+            self.assertEqual(run('verify', RETRY, *words)[0], 0)
+            status, picture, fault = run('picture', report)
+            self.assertEqual((status, fault), (0, ''))
+            for text in told:
+                self.assertIn(text, picture)
+            self.assertEqual(picture.count('ticks are rounded'), int(is_rounded), interval)
 
     def test_another_model(self) -> None:
         for name in ('links.drn', 'twin.drn', 'coin.drn', 'retry-tree.report'):

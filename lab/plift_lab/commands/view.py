@@ -65,7 +65,7 @@ def page(
         names.name_goal(report)
     parts = {
         'TITLE': html.escape(title or report.question),
-        'SUMMARY': html.escape(report.verdict_line),
+        'SUMMARY': html.escape(_unbroken(report.verdict_line)),
         'STYLE': _file('page.css'),
         'SCRIPT': ''.join(map(_file, SCRIPTS)),
         'DATA': _json(_data(report, _axes(report, *axes), names)),
@@ -79,6 +79,11 @@ def _file(name: str) -> str:
     if data is None:
         raise Fault('the file page/%s of plift-lab is missing' % name)
     return data.decode('utf-8')
+
+
+def _unbroken(text: str) -> str:
+    """With no end of a line before a sign of percent."""
+    return text.replace(' %', '\u00a0%')
 
 
 def _json(data: Any) -> str:
@@ -124,7 +129,7 @@ def _data(report: Report, axes: Tuple[int, int], names: Optional[Names]) -> Dict
         'schedulers': schedulers if are_told else None,
         'choosing': _choosing(report, names) if are_told else [],
         'counts': [sum(count for (one, _), count in counts.items() if one == kind) for kind in KINDS],
-        'shares': [{'exact': exact(shares[kind]), 'percent': percent(shares[kind])} for kind in KINDS],
+        'shares': [{'exact': exact(shares[kind]), 'percent': _unbroken(percent(shares[kind]))} for kind in KINDS],
         'facts': _facts(report, names),
     }
 

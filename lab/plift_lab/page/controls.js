@@ -9,6 +9,7 @@ const tree = new Tree(data.tree, Math.max(parameters.length, 1));
 const plot = new Plot(byId('picture'), byId('cursor'), tree, parameters);
 let kept = null;  // a leaf that was chosen stays told
 let due = false;
+const byTouch = window.matchMedia('(pointer: coarse)');
 const MOST_CHOICES = 500;
 
 // Values and schedulers stand in the order of the leaves that have one.
@@ -31,13 +32,13 @@ function element(name, text, properties = {}) {
   return made;
 }
 
-// Fills a table; a cell is a text, or a text with what is told below it.
-function rows(table, head, body, isExact = false) {
+// Fills a table; a cell is a text, or a text with what is told below it. Columns may be of a class.
+function rows(table, head, body, classes = []) {
   const line = (cells, kind) => {
     const row = element('tr');
     cells.forEach((cell, place) => {
       const [text, below] = Array.isArray(cell) ? cell : [cell];
-      const made = element(kind, text, { className: isExact && place > 0 ? 'exact' : '' });
+      const made = element(kind, text, { className: kind === 'td' && classes[place] || '' });
       if (below) made.append(element('small', below));
       row.append(made);
     });
@@ -46,10 +47,11 @@ function rows(table, head, body, isExact = false) {
   table.replaceChildren(line(head, 'th'), ...body.map((cells) => line(cells, 'td')));
 }
 
+// Whole where it is, else with two digits, the even one of two that are as near.
 function percent(share) {
-  if (share === 0 || share === 1) return `${100 * share} %`;
-  const text = (100 * share).toFixed(2);
-  return share > 0 && text === '0.00' ? '< 0.01 %' : share < 1 && text === '100.00' ? '> 99.99 %' : text + ' %';
+  const exact = 10000 * share, near = Math.round(exact) - (exact % 2 === 0.5 ? 1 : 0);
+  const text = exact % 100 === 0 ? `${exact / 100}` : near === 0 ? '< 0.01' : near === 10000 ? '> 99.99' : (near / 100).toFixed(2);
+  return text + '\u00a0%';
 }
 
 function redraw() {
@@ -67,26 +69,31 @@ function redraw() {
 
 function interval(axis, low, high) {
   const { name, low: from, high: to } = parameters[axis], ends = [between(from, to, low), between(from, to, high)];
-  return [name, ends.map((end) => decimal(toNumber(end), 9)).join(' to '), ends.map(exactText).join(' to ')];
+  const [below, above] = ends.map(toNumber), size = Math.max(Math.abs(below), Math.abs(above)) / (above - below);
+  const digits = Math.min(17, Math.max(9, Math.ceil(Math.log10(size)) + 3));  // as many as tell both ends apart
+  return [name, `${decimal(below, digits)} to ${decimal(above, digits)}`, ends.map(exactText).join(' to ')];
 }
 
 // What is known of a leaf, as a table and a sentence.
 function tell(leaf) {
   const card = byId('leaf');
-  if (!leaf) { card.textContent = 'Point at the picture.'; byId('leaf-title').textContent = 'Leaf'; return; }
+  if (!leaf) { card.textContent = byTouch.matches ? 'Tap the picture.' : 'Point at the picture.'; byId('leaf-title').textContent = 'Leaf'; return; }
   byId('leaf-title').textContent = `Leaf ${leaf.number}: ${NAMES[leaf.kind]}${kept ? ' (kept)' : ''}`;
   card.replaceChildren();
   if (leaf.kind === UNKNOWN) {
     card.append(element('p', 'No certificate of either kind was found for all of it at this precision and depth.'));
   } else {
     const value = fraction(BigInt(data.values[places[leaf.number]]) * BigInt(data.unit), 1n << BigInt(data.precision));
-    const number = `${exactText(value)} (about ${decimal(toNumber(value), 9)})`;
+    const number = exactText(value) + (value[1] === 1n ? '' : ` (about ${decimal(toNumber(value), 9)})`);
     const bits = data.precisions ? ` Its certificate has ${data.precisions[places[leaf.number]]} bits.` : '';
     card.append(element('p', data.says[leaf.kind].replace('@', () => number) + bits));
   }
-  const table = element('table');
-  rows(table, ['', 'about', 'exactly'], parameters.map((_, axis) => interval(axis, leaf.low[axis], leaf.high[axis])), true);
-  card.append(table, element('p', `Depth ${leaf.depth}, ${percent(2 ** -leaf.depth)} of the region.`));
+  if (parameters.length) {
+    const table = element('table'), sides = parameters.map((_, axis) => interval(axis, leaf.low[axis], leaf.high[axis]));
+    rows(table, ['', 'about', 'exactly'], sides, ['name', 'about', 'exact']);
+    card.append(table);
+  }
+  card.append(element('p', `Depth ${leaf.depth}, ${percent(2 ** -leaf.depth)} of the region.`));
   if (leaf.kind === REJECT && data.isProcess) tellScheduler(card, data.picks[picks[leaf.number]]);
 }
 
@@ -104,7 +111,7 @@ function tellScheduler(card, pick) {
   const chosen = made.slice(0, MOST_CHOICES).map(([state, labels, actions]) =>
     [labels ? `${state} ${labels}` : `${state}`, actions[Number(choices[state])]]);
   const table = element('table');
-  rows(table, ['in state', 'choice'], chosen);
+  rows(table, ['in state', 'choice'], chosen, ['name', 'name']);
   card.append(table);
   if (made.length > MOST_CHOICES) card.append(element('p', `and ${made.length - MOST_CHOICES} other states.`));
 }
@@ -170,7 +177,7 @@ function pinch(fingers) {
 }
 
 function onPointers(canvas) {
-  let held = null;
+  let held = null, isTapped = false;
   const fingers = new Map();
   canvas.addEventListener('pointerdown', (event) => {
     held = { at: place(event), moved: false };
@@ -203,8 +210,14 @@ function onPointers(canvas) {
       const leaf = plot.leafAt(...place(event));
       kept = kept && leaf && leaf.node === kept.node ? null : leaf;
       mark(leaf);
+      isTapped = event.pointerType === 'touch' && !!kept;
     }
     held = null;
+  });
+  // What is told of a leaf may lie below the screen. The click is the last that comes of a tap, so nothing else is hit.
+  canvas.addEventListener('click', () => {
+    if (isTapped) byId('leaf').firstElementChild.scrollIntoView({ block: 'nearest' });
+    isTapped = false;
   });
   canvas.addEventListener('pointercancel', (event) => { held = null; fingers.delete(event.pointerId); });
   canvas.addEventListener('pointerleave', () => { if (!kept && document.activeElement !== canvas) mark(null); });
@@ -247,11 +260,13 @@ function buildAxes() {
     const update = () => { shown.textContent = decimal(plot.value(axis, plot.point[axis]), 6); };
     slider.addEventListener('input', () => {
       plot.point[axis] = Number(slider.value);
+      byId('leaf').style.minHeight = `${byId('leaf').offsetHeight}px`;  // so that the slider stays where it is
       kept = null;
       mark(null);
       update();
       redraw();
     });
+    slider.addEventListener('change', () => { byId('leaf').style.minHeight = ''; });
     update();
     label.append(element('span', parameters[axis].name), shown, slider);
     card.append(label);
@@ -260,7 +275,11 @@ function buildAxes() {
 
 function buildFacts() {
   const list = byId('facts');
-  for (const [name, text] of data.facts) list.append(element('dt', name), element('dd', text));
+  for (const [name, text] of data.facts) {
+    const told = element('dd');
+    text.split(/(?<=,)/).forEach((part) => told.append(part, element('wbr')));  // a region's lines end behind a comma
+    list.append(element('dt', name), told);
+  }
   const shown = (count) => count.toLocaleString('en');
   rows(byId('depths'), ['depth', ...NAMES], tree.depths().map((counts, depth) => [depth, ...counts.map(shown)]));
 }
@@ -274,8 +293,8 @@ function buildLegend() {
     const context = sample.getContext('2d');
     context.fillStyle = plot.fill(context, kind, ratio, plot.color);
     context.fillRect(0, 0, sample.width, sample.height);
-    const note = kind === REJECT && data.isProcess ? ' (inside: the number of the scheduler)' : '';
-    item.append(sample, `${NAMES[kind]}, ${data.shares[kind].percent}${note}`);
+    const note = kind === REJECT && data.isProcess && data.counts[kind] ? ' (inside: the number of the scheduler)' : '';
+    item.append(sample, element('span', `${NAMES[kind]}, ${data.shares[kind].percent}${note}`));
     list.append(item);
   });
 }
@@ -305,6 +324,7 @@ function start() {
   plot.setAxes(data.axes[0], data.axes[1]);
   buildAxes();
   buildFacts();
+  tell(null);
   byId('picture').addEventListener('keydown', onKey);
   onPointers(byId('picture'));
   const does = (id, act) => byId(id).addEventListener('click', () => { act(); redraw(); });

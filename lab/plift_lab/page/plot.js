@@ -50,19 +50,31 @@ class Plot {
     return from + (to - from) * units / UNIT;
   }
 
-  // Ticks at round values in the window of an axis.
+  // Ticks at round values in the window of an axis, in one notation.
   ticks(axis, range, most) {
     const from = this.value(axis, range[0]), to = this.value(axis, range[1]);
     const rough = (to - from) / Math.max(most, 1), power = 10 ** Math.floor(Math.log10(rough));
     const step = [1, 2, 5, 10].map((factor) => factor * power).find((size) => size >= rough) || 10 * power;
-    const found = [];
-    for (let place = Math.ceil(from / step - 1e-9); place * step <= to + step * 1e-9 && found.length < 50; place++) {
-      const value = place * step;
-      const digits = Math.min(15, Math.max(1, Math.ceil(Math.log10(Math.abs(value) / step + 1) + 1)));
-      found.push({ units: (value - this.parameters[axis].from) / (this.parameters[axis].to - this.parameters[axis].from) * UNIT,
-                   text: decimal(value, digits) });
+    const values = [];
+    for (let place = Math.ceil(from / step - 1e-9); place * step <= to + step * 1e-9 && values.length < 50; place++) {
+      values.push(place * step);
     }
-    return found;
+    const { from: least, to: greatest } = this.parameters[axis], inPowers = values.some(isFar);
+    return values.map((value) => {
+      const digits = Math.min(15, Math.max(1, Math.ceil(Math.log10(Math.abs(value) / step + 1) + 1)));
+      return { units: (value - least) / (greatest - least) * UNIT, text: decimal(value, digits, inPowers) };
+    });
+  }
+
+  // The margins beside the picture, and as many ticks below it as have room between each other.
+  below(width, left, room) {
+    const [from, to] = this.view.x;
+    for (let most = Math.floor(width / 50); ; most--) {
+      const ticks = this.x < 0 ? [] : this.ticks(this.x, this.view.x, most), half = Math.ceil(room(ticks) / 2) + 4;
+      const margins = [Math.max(left, half), Math.max(16, half)], inner = width - margins[0] - margins[1];
+      const apart = ticks.length < 2 ? Infinity : inner * (ticks[1].units - ticks[0].units) / (to - from);
+      if (most <= 1 || apart >= room(ticks) + 20) return [ticks, ...margins];
+    }
   }
 
   layout() {
@@ -73,9 +85,8 @@ class Plot {
     const flat = this.y < 0;
     const height = flat ? 150 : Math.min(width * 0.86, Math.max(320, window.innerHeight - 210));
     const yTicks = flat ? [] : this.ticks(this.y, this.view.y, height / 60);
-    const left = flat ? 14 : Math.ceil(room(yTicks)) + 34, bottom = this.x < 0 ? 14 : 48;
-    const xTicks = this.x < 0 ? [] : this.ticks(this.x, this.view.x, (width - left) / 90);
-    const right = Math.max(16, Math.ceil(room(xTicks) / 2) + 4), top = 12;
+    const [xTicks, left, right] = this.below(width, flat ? 14 : Math.ceil(room(yTicks)) + 34, room);
+    const top = 12, bottom = this.x < 0 ? 14 : 48;
     for (const canvas of [this.canvas, this.overlay]) {
       canvas.width = Math.round(width * ratio);
       canvas.height = Math.round(height * ratio);

@@ -97,10 +97,11 @@ function toNumber([above, below]) {
   return Number(above / scale) / Number(below / scale);
 }
 
-function decimal(value, digits = 6) {
+// Whether a number is read more easily with a power of ten.
+function isFar(value) { return value !== 0 && (Math.abs(value) < 1e-4 || Math.abs(value) >= 1e7); }
+
+function decimal(value, digits = 6, inPowers = isFar(value)) {
   if (value === 0) return '0';
-  const size = Math.abs(value);
-  const isFar = size < 1e-4 || size >= 1e7;
-  const text = isFar ? value.toExponential(digits - 1).replace(/\.?0+e/, 'e') : value.toPrecision(digits);
+  const text = inPowers ? value.toExponential(digits - 1).replace(/\.?0+e/, 'e') : value.toPrecision(digits);
   return text.includes('e') || !text.includes('.') ? text.replace('e+', 'e') : text.replace(/\.?0+$/, '');
 }
