@@ -62,6 +62,11 @@ class Bounds:
         return bounds_html(self)
 
 
+def _is_rounded_off(least: Fraction, most: Fraction) -> bool:
+    """Whether one end says nothing and the other one little, so that rounding may be all that is between."""
+    return 0 < most - least < Fraction(1, 1000) and (least == 0 or most == 1)
+
+
 def find_bounds(session: Session, question: Question, width: Optional[Fraction], calls: int) -> Bounds:
     """Asks for numbers until both sides are known to the width, or so many questions were asked."""
     question.region.fit(question.model.parameters)
@@ -81,8 +86,11 @@ def find_bounds(session: Session, question: Question, width: Optional[Fraction],
     lower = replace(upper, value=Fraction(0)) if is_cost else desk.low(whole)
     sup = Side('sup', (whole, lower), [(whole, upper)], is_shown=not is_cost)
     inf = Side('inf', (whole, upper), [(whole, lower)])
+    points = Points(whole, [name for name in whole.names if name in first.live], desk.high)
+    if width is None and _is_rounded_off(lower.value, upper.value) and session.asked + 2 <= calls:
+        rounding = desk.rounding(points.at(points.middle_of(whole)))
+        sup, inf = replace(sup, rounding=rounding), replace(inf, rounding=rounding)
     if width is not None:
-        points = Points(whole, [name for name in whole.names if name in first.live], desk.high)
         session.allow((calls - session.asked) // 2)
         sup = Search(desk, points, sup).run(width)
         session.allow(calls - session.asked)

@@ -12,6 +12,8 @@ from .plain import plain
 from .program import CHECKOUT, Program, ended, file_of
 
 RECHECK = CHECKOUT / 'recheck/recheck.py'
+BARE = '-I', '-S'
+"""Python without what is installed beside its standard library, which recheck.py does without: it starts at once."""
 NO_SUCH_WORD = (2, 'usage: words')
 
 
@@ -50,7 +52,7 @@ def _recheck(text: bytes) -> str:
     if not RECHECK.is_file():
         raise Fault('%s isn\'t there, which judges a text of this kind: plift check doesn\'t read it' % RECHECK, LOST)
     with file_of(text) as source:
-        words = [sys.executable, str(RECHECK)]
+        words = [sys.executable, *BARE, str(RECHECK)]
         process = subprocess.Popen(words, stdin=source, stdout=subprocess.PIPE, stderr=subprocess.PIPE)
         try:
             line, note = ended(process)

@@ -84,6 +84,13 @@ class Desk:
     def _ask(self, region: Region, bound: Fraction) -> Report:
         return self.session.ask(replace(self.question, region=region, bound=bound * self.question.form.unit))
 
+    def rounding(self, point: Region) -> Fraction:
+        """What rounding leaves at a point; both reports are let go of."""
+        ends = self.high(point), self.low(point)
+        for end in ends:
+            self.forget(end)
+        return ends[0].value - ends[1].value
+
     def forget(self, end: End) -> None:
         """Lets go of a report that is needed no longer."""
         self.session.evidence.forget(end.path)

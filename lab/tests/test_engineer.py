@@ -128,6 +128,10 @@ class Copies(InFolder):
         model = self.file('rare.drn', RARE.encode())
         told = run('bounds', model, '--goal', 'failed', '--region', 'p=1e-9..1e-7,m=1/2..1', '--width', '1e-7')[1]
         self.assertIn('so no width below 5.5e-5 can be had, and no halving helps; ask of fewer steps', told)
+        told = run('bounds', model, '--goal', 'failed', '--region', 'p=1e-9..1e-7,m=1/2..1')[1]
+        self.assertIn('rounding is most of what is between: 40 bits round by 2.8e-5 at a point inside; ask of', told)
+        told = run('bounds', model, '--goal', 'failed', '--region', 'p=1e-9..1e-7,m=1/2..1', '--calls', '2')[1]
+        self.assertNotIn('rounding', told)
         report = str(self.folder / 'rare.report')
         words = ['--bound', '1e-6', '--region', 'p=1e-9..1e-7,m=1/2..1', '--relative', '--depth', '2']
         run('verify', model, '--goal', 'failed', *words, '--report', report)

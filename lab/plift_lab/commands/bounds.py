@@ -65,12 +65,17 @@ def _hull_lines(found: Bounds, session: Session) -> List[str]:
     every, some = (', whatever is chosen', ' by the best choices') if found.is_process else ('', '')
     if found.form.is_of_least:
         every, some = (' by the choices that reach least', ', whatever is chosen') if found.is_process else ('', '')
-    return [
+    lines = [
         'at most %s is reached%s, anywhere in the region' % (above(upper.value, 9), every),
         '  %s%s' % (exact(upper.value), _file(upper, session)),
         'at least %s is reached%s, everywhere in the region' % (below(lower.value, 9), some),
         '  %s%s' % (exact(lower.value), _file(lower, session)),
     ]
+    rounding = found.sup.rounding
+    if 2 * rounding > upper.value - lower.value:
+        told = 'rounding is most of what is between: %d bits round by %s at a point inside; %s'
+        lines.append(told % (found.precision, above(rounding, 2), asking.bits_advice(found.precision)))
+    return lines
 
 
 def _cost_lines(found: Bounds, session: Session) -> List[str]:
