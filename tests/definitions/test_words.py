@@ -22,6 +22,7 @@ from hints import data  # noqa: E402
 NUMBER = re.compile(r"^(\w+) = (.+)$", re.M)
 CODES = re.compile(r'codes "([^"]+)"')
 NAME = re.compile(r"`([^`]+)`")
+FORM = re.compile(r'^is_\w+ = is_command \(codes "(\w+)"\) \((.*?\[\])\) (.*)$', re.M)
 
 
 def specs(crate: str, file: str) -> str:
@@ -102,40 +103,33 @@ class Source(unittest.TestCase):
     def test_commands_and_options(self) -> None:
         """The commands and the options of plift are those that its grammar names; so are the options of plift-view."""
         line = specs("plift_words", "Line")
-        is_option = next(told for told in line.splitlines() if told.startswith("is_option name ="))
-        asked = {row["option"] for row in data.table("options") if row["commands"] != "plift-view"} - {"N"}
-        self.assertEqual(set(CODES.findall(is_option)), asked)
         words = set(CODES.findall(line)) | set(CODES.findall(specs("plift_words", "Job")))
         others = {word for word in words if re.fullmatch("[a-z]+", word)}
         self.assertEqual(others, set(data.commands()))
         view = re.findall(r'option \(codes "(\w+)"\)', specs("view_words", "Words"))
         self.assertEqual([f"--{name}" for name in view], [row["option"] for row in data.options_of("plift-view")])
 
+    def test_options_of_each_command(self) -> None:
+        """The options that have to stand behind a command that asks, and those that may, are those of the tables."""
+        line = specs("plift_words", "Line")
+        common = CODES.findall(next(told for told in line.splitlines() if told.startswith("common_options =")))
+        asking = FORM.findall(line)
+        self.assertEqual([name for name, _, _ in asking], ["verify", "bounded", "lumped", "property", "cost"])
+        for name, must, may in asking:
+            with self.subTest(name):
+                needed = {row["option"]: row["needed"] == "yes" for row in data.options_of(name)}
+                told = {option: True for option in CODES.findall(must)}
+                told.update((option, False) for option in [*CODES.findall(may), *common])
+                self.assertEqual(told, needed)
+        every = next(told for told in specs("plift_words", "Parser").splitlines() if told.startswith("option_names ="))
+        rows = [row["option"] for row in data.table("options") if row["commands"] != "plift-view"]
+        self.assertEqual(set(CODES.findall(every)), set(rows) - {"N"})
+
     def test_door(self) -> None:
         """The launcher knows the same commands."""
         door = (TOP / "tools" / "door.sh").read_text(encoding="utf-8")
         is_command = re.search(r"is_command\(\) \{.*?case \$1 in\n(.*?)\) ;;", door, re.S)
         self.assertEqual(is_command and is_command[1].split(" | "), ["    verify", *data.commands()[1:]])
-
-    def test_options_of_commands(self) -> None:
-        """An option that a command doesn't take is one that its definition says isn't there, or isn't what it asks."""
-        line = specs("plift_words", "Line")
-        told = dict(re.findall(r"^((?:is|tells)_\w+) words = (.*)$", line, re.M))
-        for command in data.ASKING:
-            text = told[f"is_{command}"]
-            for part in ("tells_goal", "tells_formula", "tells_cost", "tells_limits"):
-                text = text.replace(f"{part} words", told[part])
-            text = text.replace("tells_limits words", told["tells_limits"])
-            text = text.replace("not (tells_payment words)", told["tells_payment"].replace("has", "not has"))
-            refused = set(re.findall(r'not \(?has \(codes "(--\w+)"\)', text))
-            needed = set(re.findall(r'(?<!not )(?<!not \()has \(codes "(--\w+)"\)', text))
-            with self.subTest(command):
-                self.assertEqual(refused & set(data.names_of(command)), set())
-                self.assertEqual(needed, set(data.needed_by(command)))
-                every = {
-                    row["option"] for row in data.table("options") if set(row["commands"].split()) & set(data.ASKING)
-                }
-                self.assertEqual(every - refused, set(data.names_of(command)))
 
     def test_statuses(self) -> None:
         """The numbers of the statuses, and that hints know each note's."""

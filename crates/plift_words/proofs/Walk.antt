@@ -1,7 +1,7 @@
 -- The parser of command lines over the options of a plain line: what each word does, in any order and in both spellings.
 use Prim.Native.Char.{code}
 use Rattle.std.proofs.Common.{◌≡◌, ◌==◌, ◌&&◌, ◌||◌, not, List, [], ◌∷◌, ◌++◌, map, Option, Some, None, Bool, true, false, refl, sym, ap, ap₂, ◌∙◌, subst, arith, codes, cond, append_assoc, append-nil, ◌⊎◌, inl, inr}
-use Rattle.std.specs.Prelude.{unwrap_or, drop}
+use Rattle.std.specs.Prelude.{⊤, unwrap_or, drop}
 use Rattle.std.specs.List.{list_all, list_any, fold}
 use Rattle.std.specs.Str.{bytes_eq}
 use Rattle.std.proofs.lemmas.Slice.Eq.{bytes_eq-Decides}
@@ -21,9 +21,9 @@ use Rattle.clap.proofs.TakesLemmas.{leaf_takes}
 use Rattle.clap.proofs.WalkLemmas.{both, first_value-rows}
 use Rattle.clap.proofs.SimpleLemmas.{is_false, is_nil}
 use Rattle.lift_frac.specs.Written.{cut_at}
-use Rattle.plift_words.specs.Line.{Setting, attached, options, stands, value_of, is_option, is_value, are_options, is_command, has, tells_goal, tells_formula, tells_cost, is_verify, is_bounded, is_lumped, is_property, is_cost, is_asking}
+use Rattle.plift_words.specs.Line.{Setting, attached, options, stands, value_of, is_among, is_value, are_options, is_command, is_verify, is_bounded, is_lumped, common_options, is_property, is_cost, is_asking}
 use Rattle.plift_words.proofs.Cuts.{neither, cut_parts, options_one, options_two, options_lone}
-use Rattle.plift_words.specs.Parser.{HasValues, verify_app}
+use Rattle.plift_words.specs.Parser.{HasValues, option_names, verify_app}
 
 -- the command as the parser builds it, and the rules of its options
 unfoldable shape : Shape
@@ -33,19 +33,23 @@ shape = (built verify_app).top
 abbrev rules : List Rule
 rules = shape.rules
 
--- the name of an option and its id
-data Known : Text → Text → Type 0 where
-  goal : Known (codes "--goal") (codes "goal")
-  bound : Known (codes "--bound") (codes "bound")
-  region : Known (codes "--region") (codes "region")
-  depth : Known (codes "--depth") (codes "depth")
-  precision : Known (codes "--precision") (codes "precision")
-  steps : Known (codes "--steps") (codes "steps")
-  from : Known (codes "--from") (codes "from")
-  formula : Known (codes "--formula") (codes "formula")
-  reward : Known (codes "--reward") (codes "reward")
-  budget : Known (codes "--budget") (codes "budget")
-  cap : Known (codes "--cap") (codes "cap")
+-- what holds of each of these names
+abbrev Each : (Text → Type 0) → List Text → Type 0
+Each P [] = ⊤
+Each P (name ∷ names) = P name × Each P names
+
+-- holds of a name that is one of them
+among : (P : Text → Type 0) (names : List Text) → Each P names → (name : Text) → is_among names name ≡ true → P name
+among P [] h name e = absurd (cc)
+among P (first ∷ names) h name e = go (among P names h.1 name) (bytes_eq name first) refl
+  where
+    go : (is_among names name ≡ true → P name) → (t : Bool) → bytes_eq name first ≡ t → P name
+    go rest true is = subst P (sym ((bytes_eq-Decides name first).0 is)) h.0
+    go rest false is = rest (rw is at e)
+
+-- an option that the parser knows
+abbrev IsKnown : Text → Type 0
+IsKnown name = is_among option_names name ≡ true
 
 -- waits for the value of an option
 abbrev waits : List Row → Text → Walk
@@ -61,33 +65,13 @@ clean rows = record { rows = rows; pending = None; skip = 0 }
 
 -- ---- one word
 
-name_walked : (name id : Text) → Known name id → (h : Held) → walked rules [] (walk_from h) name ≡ record (waits [] id) { held = record (settled rules h) { pending = Some (id, []) } }
+name_walked : (name : Text) → IsKnown name → (h : Held) → walked rules [] (walk_from h) name ≡ record (waits [] (drop 2 name)) { held = record (settled rules h) { pending = Some (drop 2 name, []) } }
 unfolding walked shape verify_app
-name_walked name id goal h = refl
-name_walked name id bound h = refl
-name_walked name id region h = refl
-name_walked name id depth h = refl
-name_walked name id precision h = refl
-name_walked name id steps h = refl
-name_walked name id from h = refl
-name_walked name id formula h = refl
-name_walked name id reward h = refl
-name_walked name id budget h = refl
-name_walked name id cap h = refl
+name_walked = among (λ name. (h : Held) → walked rules [] (walk_from h) name ≡ record (waits [] (drop 2 name)) { held = record (settled rules h) { pending = Some (drop 2 name, []) } }) option_names (λ h. refl, (λ h. refl, (λ h. refl, (λ h. refl, (λ h. refl, (λ h. refl, (λ h. refl, (λ h. refl, (λ h. refl, (λ h. refl, (λ h. refl, tt)))))))))))
 
-name_passes : (name id : Text) → Known name id → (h : Held) → settle_passes rules false h ≡ true → turn_passes shape [] (walk_from h) name ≡ true
+name_passes : (name : Text) → IsKnown name → (h : Held) → settle_passes rules false h ≡ true → turn_passes shape [] (walk_from h) name ≡ true
 unfolding shape verify_app
-name_passes name id goal h e = rw e refl
-name_passes name id bound h e = rw e refl
-name_passes name id region h e = rw e refl
-name_passes name id depth h e = rw e refl
-name_passes name id precision h e = rw e refl
-name_passes name id steps h e = rw e refl
-name_passes name id from h e = rw e refl
-name_passes name id formula h e = rw e refl
-name_passes name id reward h e = rw e refl
-name_passes name id budget h e = rw e refl
-name_passes name id cap h e = rw e refl
+name_passes = among (λ name. (h : Held) → settle_passes rules false h ≡ true → turn_passes shape [] (walk_from h) name ≡ true) option_names (λ h e. rw e refl, (λ h e. rw e refl, (λ h e. rw e refl, (λ h e. rw e refl, (λ h e. rw e refl, (λ h e. rw e refl, (λ h e. rw e refl, (λ h e. rw e refl, (λ h e. rw e refl, (λ h e. rw e refl, (λ h e. rw e refl, tt)))))))))))
 
 -- what doesn't begin with `-` is no option
 record IsNoFlag (v : Text) : Type 0 where
@@ -105,66 +89,25 @@ no_flag (b ∷ v) e =
     go true is = absurd (cc (rw is at e))
     go false is = grind (arith, nat_tests)
 
-value_walked : (id v : Text) (rows : List Row) (name : Text) → Known name id → IsNoFlag v → walked rules [] (waits rows id) v ≡ walk_from (holds rows id v)
+value_walked : (name : Text) → IsKnown name → (v : Text) (rows : List Row) → IsNoFlag v → walked rules [] (waits rows (drop 2 name)) v ≡ walk_from (holds rows (drop 2 name) v)
 unfolding walked shape verify_app
-value_walked id v rows name goal n = rw (n.long, n.short, n.marker) refl
-value_walked id v rows name bound n = rw (n.long, n.short, n.marker) refl
-value_walked id v rows name region n = rw (n.long, n.short, n.marker) refl
-value_walked id v rows name depth n = rw (n.long, n.short, n.marker) refl
-value_walked id v rows name precision n = rw (n.long, n.short, n.marker) refl
-value_walked id v rows name steps n = rw (n.long, n.short, n.marker) refl
-value_walked id v rows name from n = rw (n.long, n.short, n.marker) refl
-value_walked id v rows name formula n = rw (n.long, n.short, n.marker) refl
-value_walked id v rows name reward n = rw (n.long, n.short, n.marker) refl
-value_walked id v rows name budget n = rw (n.long, n.short, n.marker) refl
-value_walked id v rows name cap n = rw (n.long, n.short, n.marker) refl
+value_walked = among (λ name. (v : Text) (rows : List Row) → IsNoFlag v → walked rules [] (waits rows (drop 2 name)) v ≡ walk_from (holds rows (drop 2 name) v)) option_names (λ v rows n. rw (n.long, n.short, n.marker) refl, (λ v rows n. rw (n.long, n.short, n.marker) refl, (λ v rows n. rw (n.long, n.short, n.marker) refl, (λ v rows n. rw (n.long, n.short, n.marker) refl, (λ v rows n. rw (n.long, n.short, n.marker) refl, (λ v rows n. rw (n.long, n.short, n.marker) refl, (λ v rows n. rw (n.long, n.short, n.marker) refl, (λ v rows n. rw (n.long, n.short, n.marker) refl, (λ v rows n. rw (n.long, n.short, n.marker) refl, (λ v rows n. rw (n.long, n.short, n.marker) refl, (λ v rows n. rw (n.long, n.short, n.marker) refl, tt)))))))))))
 
-value_passes : (id v : Text) (rows : List Row) (name : Text) → Known name id → IsNoFlag v → turn_passes shape [] (waits rows id) v ≡ true
+value_passes : (name : Text) → IsKnown name → (v : Text) (rows : List Row) → IsNoFlag v → turn_passes shape [] (waits rows (drop 2 name)) v ≡ true
 unfolding shape verify_app
-value_passes id v rows name goal n = rw (n.long, n.short, n.marker) refl
-value_passes id v rows name bound n = rw (n.long, n.short, n.marker) refl
-value_passes id v rows name region n = rw (n.long, n.short, n.marker) refl
-value_passes id v rows name depth n = rw (n.long, n.short, n.marker) refl
-value_passes id v rows name precision n = rw (n.long, n.short, n.marker) refl
-value_passes id v rows name steps n = rw (n.long, n.short, n.marker) refl
-value_passes id v rows name from n = rw (n.long, n.short, n.marker) refl
-value_passes id v rows name formula n = rw (n.long, n.short, n.marker) refl
-value_passes id v rows name reward n = rw (n.long, n.short, n.marker) refl
-value_passes id v rows name budget n = rw (n.long, n.short, n.marker) refl
-value_passes id v rows name cap n = rw (n.long, n.short, n.marker) refl
+value_passes = among (λ name. (v : Text) (rows : List Row) → IsNoFlag v → turn_passes shape [] (waits rows (drop 2 name)) v ≡ true) option_names (λ v rows n. rw (n.long, n.short, n.marker) refl, (λ v rows n. rw (n.long, n.short, n.marker) refl, (λ v rows n. rw (n.long, n.short, n.marker) refl, (λ v rows n. rw (n.long, n.short, n.marker) refl, (λ v rows n. rw (n.long, n.short, n.marker) refl, (λ v rows n. rw (n.long, n.short, n.marker) refl, (λ v rows n. rw (n.long, n.short, n.marker) refl, (λ v rows n. rw (n.long, n.short, n.marker) refl, (λ v rows n. rw (n.long, n.short, n.marker) refl, (λ v rows n. rw (n.long, n.short, n.marker) refl, (λ v rows n. rw (n.long, n.short, n.marker) refl, tt)))))))))))
 
 -- the rows after an option was used with a value
 abbrev used_with : Text → Text → List Row → List Row
 used_with id v rows = used_by_id (arg_by_id rules id) (v ∷ []) rows
 
-one_walked : (name id v : Text) → Known name id → (h : Held) → walked rules [] (walk_from h) (name ++ code "=" ∷ v) ≡ walk_from (record (settled rules h) { rows = used_with id v (settled rules h).rows })
+one_walked : (name : Text) → IsKnown name → (v : Text) (h : Held) → walked rules [] (walk_from h) (name ++ code "=" ∷ v) ≡ walk_from (record (settled rules h) { rows = used_with (drop 2 name) v (settled rules h).rows })
 unfolding walked shape verify_app
-one_walked name id v goal h = refl
-one_walked name id v bound h = refl
-one_walked name id v region h = refl
-one_walked name id v depth h = refl
-one_walked name id v precision h = refl
-one_walked name id v steps h = refl
-one_walked name id v from h = refl
-one_walked name id v formula h = refl
-one_walked name id v reward h = refl
-one_walked name id v budget h = refl
-one_walked name id v cap h = refl
+one_walked = among (λ name. (v : Text) (h : Held) → walked rules [] (walk_from h) (name ++ code "=" ∷ v) ≡ walk_from (record (settled rules h) { rows = used_with (drop 2 name) v (settled rules h).rows })) option_names (λ v h. refl, (λ v h. refl, (λ v h. refl, (λ v h. refl, (λ v h. refl, (λ v h. refl, (λ v h. refl, (λ v h. refl, (λ v h. refl, (λ v h. refl, (λ v h. refl, tt)))))))))))
 
-one_passes : (name id v : Text) → Known name id → (h : Held) → settle_passes rules false h ≡ true → has_row id (settled rules h).rows ≡ false
-    → turn_passes shape [] (walk_from h) (name ++ code "=" ∷ v) ≡ true
+one_passes : (name : Text) → IsKnown name → (v : Text) (h : Held) → settle_passes rules false h ≡ true → has_row (drop 2 name) (settled rules h).rows ≡ false → turn_passes shape [] (walk_from h) (name ++ code "=" ∷ v) ≡ true
 unfolding shape verify_app
-one_passes name id v goal h e fresh = rw (e, fresh) refl
-one_passes name id v bound h e fresh = rw (e, fresh) refl
-one_passes name id v region h e fresh = rw (e, fresh) refl
-one_passes name id v depth h e fresh = rw (e, fresh) refl
-one_passes name id v precision h e fresh = rw (e, fresh) refl
-one_passes name id v steps h e fresh = rw (e, fresh) refl
-one_passes name id v from h e fresh = rw (e, fresh) refl
-one_passes name id v formula h e fresh = rw (e, fresh) refl
-one_passes name id v reward h e fresh = rw (e, fresh) refl
-one_passes name id v budget h e fresh = rw (e, fresh) refl
-one_passes name id v cap h e fresh = rw (e, fresh) refl
+one_passes = among (λ name. (v : Text) (h : Held) → settle_passes rules false h ≡ true → has_row (drop 2 name) (settled rules h).rows ≡ false → turn_passes shape [] (walk_from h) (name ++ code "=" ∷ v) ≡ true) option_names (λ v h e fresh. rw (e, fresh) refl, (λ v h e fresh. rw (e, fresh) refl, (λ v h e fresh. rw (e, fresh) refl, (λ v h e fresh. rw (e, fresh) refl, (λ v h e fresh. rw (e, fresh) refl, (λ v h e fresh. rw (e, fresh) refl, (λ v h e fresh. rw (e, fresh) refl, (λ v h e fresh. rw (e, fresh) refl, (λ v h e fresh. rw (e, fresh) refl, (λ v h e fresh. rw (e, fresh) refl, (λ v h e fresh. rw (e, fresh) refl, tt)))))))))))
 
 -- ---- rows
 
@@ -186,19 +129,9 @@ set_new id v rows fresh =
     let same : without id rows ≡ rows = at_new id (λ _. []) [] rows fresh ∙ append-nil rows in
     ap (with_values id AsWritten CommandLine (v ∷ [])) same ∙ at_new id (more_values CommandLine (v ∷ [])) (row id v ∷ []) rows fresh
 
-used_new : (name id v : Text) → Known name id → (rows : List Row) → has_row id rows ≡ false → used_with id v rows ≡ rows ++ row id v ∷ []
+used_new : (name : Text) → IsKnown name → (v : Text) (rows : List Row) → has_row (drop 2 name) rows ≡ false → used_with (drop 2 name) v rows ≡ rows ++ row (drop 2 name) v ∷ []
 unfolding shape verify_app
-used_new name id v goal rows fresh = set_new id v rows fresh
-used_new name id v bound rows fresh = set_new id v rows fresh
-used_new name id v region rows fresh = set_new id v rows fresh
-used_new name id v depth rows fresh = set_new id v rows fresh
-used_new name id v precision rows fresh = set_new id v rows fresh
-used_new name id v steps rows fresh = set_new id v rows fresh
-used_new name id v from rows fresh = set_new id v rows fresh
-used_new name id v formula rows fresh = set_new id v rows fresh
-used_new name id v reward rows fresh = set_new id v rows fresh
-used_new name id v budget rows fresh = set_new id v rows fresh
-used_new name id v cap rows fresh = set_new id v rows fresh
+used_new = among (λ name. (v : Text) (rows : List Row) → has_row (drop 2 name) rows ≡ false → used_with (drop 2 name) v rows ≡ rows ++ row (drop 2 name) v ∷ []) option_names (λ v rows fresh. set_new _ v rows fresh, (λ v rows fresh. set_new _ v rows fresh, (λ v rows fresh. set_new _ v rows fresh, (λ v rows fresh. set_new _ v rows fresh, (λ v rows fresh. set_new _ v rows fresh, (λ v rows fresh. set_new _ v rows fresh, (λ v rows fresh. set_new _ v rows fresh, (λ v rows fresh. set_new _ v rows fresh, (λ v rows fresh. set_new _ v rows fresh, (λ v rows fresh. set_new _ v rows fresh, (λ v rows fresh. set_new _ v rows fresh, tt)))))))))))
 
 -- what is held comes to these rows
 record Ready (h : Held) (rows : List Row) : Type 0 where
@@ -208,22 +141,12 @@ record Ready (h : Held) (rows : List Row) : Type 0 where
 clean_ready : (rows : List Row) → Ready (clean rows) rows
 clean_ready rows = record { settles = refl; passes = refl }
 
-holds_passes : (name id v : Text) → Known name id → (rows : List Row) → has_row id rows ≡ false → settle_passes rules false (holds rows id v) ≡ true
+holds_passes : (name : Text) → IsKnown name → (v : Text) (rows : List Row) → has_row (drop 2 name) rows ≡ false → settle_passes rules false (holds rows (drop 2 name) v) ≡ true
 unfolding shape verify_app
-holds_passes name id v goal rows fresh = rw fresh refl
-holds_passes name id v bound rows fresh = rw fresh refl
-holds_passes name id v region rows fresh = rw fresh refl
-holds_passes name id v depth rows fresh = rw fresh refl
-holds_passes name id v precision rows fresh = rw fresh refl
-holds_passes name id v steps rows fresh = rw fresh refl
-holds_passes name id v from rows fresh = rw fresh refl
-holds_passes name id v formula rows fresh = rw fresh refl
-holds_passes name id v reward rows fresh = rw fresh refl
-holds_passes name id v budget rows fresh = rw fresh refl
-holds_passes name id v cap rows fresh = rw fresh refl
+holds_passes = among (λ name. (v : Text) (rows : List Row) → has_row (drop 2 name) rows ≡ false → settle_passes rules false (holds rows (drop 2 name) v) ≡ true) option_names (λ v rows fresh. rw fresh refl, (λ v rows fresh. rw fresh refl, (λ v rows fresh. rw fresh refl, (λ v rows fresh. rw fresh refl, (λ v rows fresh. rw fresh refl, (λ v rows fresh. rw fresh refl, (λ v rows fresh. rw fresh refl, (λ v rows fresh. rw fresh refl, (λ v rows fresh. rw fresh refl, (λ v rows fresh. rw fresh refl, (λ v rows fresh. rw fresh refl, tt)))))))))))
 
-holds_ready : (name id v : Text) → Known name id → (rows : List Row) → has_row id rows ≡ false → Ready (holds rows id v) (rows ++ row id v ∷ [])
-holds_ready name id v k rows fresh = record { settles = ap clean (used_new name id v k rows fresh); passes = holds_passes name id v k rows fresh }
+holds_ready : (name : Text) → IsKnown name → (v : Text) (rows : List Row) → has_row (drop 2 name) rows ≡ false → Ready (holds rows (drop 2 name) v) (rows ++ row (drop 2 name) v ∷ [])
+holds_ready name k v rows fresh = record { settles = ap clean (used_new name k v rows fresh); passes = holds_passes name k v rows fresh }
 
 -- ---- options
 
@@ -231,60 +154,12 @@ either : (a b : Bool) → (a || b) ≡ true → (a ≡ true) ⊎ (b ≡ true)
 either true b e = inl refl
 either false b e = inr e
 
-named : (name word : Text) → Known word (drop 2 word) → bytes_eq name word ≡ true → Known name (drop 2 name)
-named name word k e = subst (λ (w : Text). Known w (drop 2 w)) (sym ((bytes_eq-Decides name word).0 e)) k
+-- a name is its id behind two dashes
+dashed : (name : Text) → IsKnown name → name ≡ 45 ∷ 45 ∷ drop 2 name
+dashed = among (λ name. name ≡ 45 ∷ 45 ∷ drop 2 name) option_names (refl, (refl, (refl, (refl, (refl, (refl, (refl, (refl, (refl, (refl, (refl, tt)))))))))))
 
-known : (name : Text) → is_option name ≡ true → Known name (drop 2 name)
-known name e =
-    let is : Text → Bool = bytes_eq name in
-    elim (either (is (codes "--goal")) (list_any is (codes "--bound" ∷ codes "--region" ∷ codes "--depth" ∷ codes "--precision" ∷ codes "--steps" ∷ codes "--from" ∷ codes "--formula" ∷ codes "--reward" ∷ codes "--budget" ∷ codes "--cap" ∷ [])) e) [
-      | inl o ↦ named name (codes "--goal") goal o
-      | inr e ↦ elim (either (is (codes "--bound")) (list_any is (codes "--region" ∷ codes "--depth" ∷ codes "--precision" ∷ codes "--steps" ∷ codes "--from" ∷ codes "--formula" ∷ codes "--reward" ∷ codes "--budget" ∷ codes "--cap" ∷ [])) e) [
-        | inl o ↦ named name (codes "--bound") bound o
-        | inr e ↦ elim (either (is (codes "--region")) (list_any is (codes "--depth" ∷ codes "--precision" ∷ codes "--steps" ∷ codes "--from" ∷ codes "--formula" ∷ codes "--reward" ∷ codes "--budget" ∷ codes "--cap" ∷ [])) e) [
-          | inl o ↦ named name (codes "--region") region o
-          | inr e ↦ elim (either (is (codes "--depth")) (list_any is (codes "--precision" ∷ codes "--steps" ∷ codes "--from" ∷ codes "--formula" ∷ codes "--reward" ∷ codes "--budget" ∷ codes "--cap" ∷ [])) e) [
-            | inl o ↦ named name (codes "--depth") depth o
-            | inr e ↦ elim (either (is (codes "--precision")) (list_any is (codes "--steps" ∷ codes "--from" ∷ codes "--formula" ∷ codes "--reward" ∷ codes "--budget" ∷ codes "--cap" ∷ [])) e) [
-              | inl o ↦ named name (codes "--precision") precision o
-              | inr e ↦ elim (either (is (codes "--steps")) (list_any is (codes "--from" ∷ codes "--formula" ∷ codes "--reward" ∷ codes "--budget" ∷ codes "--cap" ∷ [])) e) [
-                | inl o ↦ named name (codes "--steps") steps o
-                | inr e ↦ elim (either (is (codes "--from")) (list_any is (codes "--formula" ∷ codes "--reward" ∷ codes "--budget" ∷ codes "--cap" ∷ [])) e) [
-                  | inl o ↦ named name (codes "--from") from o
-                  | inr e ↦ elim (either (is (codes "--formula")) (list_any is (codes "--reward" ∷ codes "--budget" ∷ codes "--cap" ∷ [])) e) [
-                    | inl o ↦ named name (codes "--formula") formula o
-                    | inr e ↦ elim (either (is (codes "--reward")) (list_any is (codes "--budget" ∷ codes "--cap" ∷ [])) e) [
-                      | inl o ↦ named name (codes "--reward") reward o
-                      | inr e ↦ elim (either (is (codes "--budget")) (list_any is (codes "--cap" ∷ [])) e) [
-                        | inl o ↦ named name (codes "--budget") budget o
-                        | inr e ↦ elim (either (is (codes "--cap")) false e) [ inl o ↦ named name (codes "--cap") cap o | inr none ↦ absurd (cc) ]
-                      ]
-                    ]
-                  ]
-                ]
-              ]
-            ]
-          ]
-        ]
-      ]
-    ]
-
--- the name is its id behind two dashes
-dashed : (name id : Text) → Known name id → name ≡ 45 ∷ 45 ∷ id
-dashed name id goal = refl
-dashed name id bound = refl
-dashed name id region = refl
-dashed name id depth = refl
-dashed name id precision = refl
-dashed name id steps = refl
-dashed name id from = refl
-dashed name id formula = refl
-dashed name id reward = refl
-dashed name id budget = refl
-dashed name id cap = refl
-
-same_name : (n i m j : Text) → Known n i → Known m j → bytes_eq i j ≡ bytes_eq n m
-same_name n i m j a b = rw (dashed n i a, dashed m j b) refl
+same_name : (n m : Text) → IsKnown n → IsKnown m → bytes_eq (drop 2 n) (drop 2 m) ≡ bytes_eq n m
+same_name n m a b = ap₂ bytes_eq (sym (dashed n a)) (sym (dashed m b))
 
 -- the row of an option that stands in a line
 abbrev row_of : Setting → Row
@@ -294,19 +169,27 @@ row_of g = row (drop 2 g.name) (unwrap_or g.value [])
 abbrev are_new : List Row → List Setting → Bool
 are_new rows given = list_all (λ g. not (has_row (drop 2 g.name) rows)) given
 
+first_of_two : (a b : Bool) → (a || b) ≡ true → b ≡ false → a ≡ true
+first_of_two true b e none = refl
+first_of_two false b e none = absurd (cc)
+
+-- options that the parser knows
+abbrev are_known : List Setting → Bool
+are_known = are_options option_names []
+
 -- the parts of the test of the option at the front
 record Front (g : Setting) (more : List Setting) : Type 0 where
-  name : Known g.name (drop 2 g.name)
+  name : IsKnown g.name
   value : is_value g.value ≡ true
   once : stands g.name more ≡ false
-  rest : are_options more ≡ true
+  rest : are_known more ≡ true
 
-front : (g : Setting) (more : List Setting) → are_options (g ∷ more) ≡ true → Front g more
+front : (g : Setting) (more : List Setting) → are_known (g ∷ more) ≡ true → Front g more
 front g more e =
-    let a = both (is_option g.name && is_value g.value && not (stands g.name more)) _ e in
-    let b = both (is_option g.name && is_value g.value) _ a.0 in
-    let c = both (is_option g.name) _ b.0 in
-    record { name = known g.name c.0; value = c.1; once = is_false _ b.1; rest = a.1 }
+    let a = both ((is_among option_names g.name || false) && is_value g.value && not (stands g.name more)) _ e in
+    let b = both ((is_among option_names g.name || false) && is_value g.value) _ a.0 in
+    let c = both (is_among option_names g.name || false) _ b.0 in
+    record { name = first_of_two _ _ c.0 refl; value = c.1; once = is_false _ b.1; rest = a.1 }
 
 differs : (a b : Text) → bytes_eq a b ≡ false → bytes_eq b a ≡ false
 differs a b e = go (bytes_eq b a) refl
@@ -318,13 +201,13 @@ differs a b e = go (bytes_eq b a) refl
 are_new_here : (rows : List Row) (g : Setting) (more : List Setting) → are_new rows (g ∷ more) ≡ true → has_row (drop 2 g.name) rows ≡ false
 are_new_here rows g more e = is_false _ (both _ _ e).0
 
-are_new_more : (name v : Text) (rows : List Row) (given : List Setting) → Known name (drop 2 name) → are_options given ≡ true → stands name given ≡ false → are_new rows given ≡ true
+are_new_more : (name v : Text) (rows : List Row) (given : List Setting) → IsKnown name → are_known given ≡ true → stands name given ≡ false → are_new rows given ≡ true
     → are_new (rows ++ row (drop 2 name) v ∷ []) given ≡ true
 are_new_more name v rows [] k options absent new = refl
 are_new_more name v rows (g ∷ more) k options absent new =
     let f = front g more options in
     let away = neither (bytes_eq g.name name) _ absent in
-    let id_differs : bytes_eq (drop 2 name) (drop 2 g.name) ≡ false = same_name name (drop 2 name) g.name (drop 2 g.name) k f.name ∙ differs g.name name away.0 in
+    let id_differs : bytes_eq (drop 2 name) (drop 2 g.name) ≡ false = same_name name g.name k f.name ∙ differs g.name name away.0 in
     let here : has_row (drop 2 g.name) (rows ++ row (drop 2 name) v ∷ []) ≡ false =
     list_any-append (λ (r : Row). bytes_eq r.id (drop 2 g.name)) rows (row (drop 2 name) v ∷ []) ∙ rw (are_new_here rows g more new, id_differs) refl in
     rw here (are_new_more name v rows more k f.rest away.1 (both _ _ new).1)
@@ -339,36 +222,38 @@ record Walks (words : List Text) (h : Held) (rows : List Row) : Type 0 where
   ready : Ready end rows
 
 -- an option in one word, and the words behind it
-one_then : (name id v : Text) (words : List Text) (h : Held) (rows all : List Row) → Known name id → Ready h rows → has_row id rows ≡ false
-    → ((h : Held) → Ready h (rows ++ row id v ∷ []) → Walks words h all) → Walks ((name ++ code "=" ∷ v) ∷ words) h all
+one_then : (name v : Text) (words : List Text) (h : Held) (rows all : List Row) → IsKnown name → Ready h rows → has_row (drop 2 name) rows ≡ false
+    → ((h : Held) → Ready h (rows ++ row (drop 2 name) v ∷ []) → Walks words h all) → Walks ((name ++ code "=" ∷ v) ∷ words) h all
 unfolding walk_passes
-one_then name id v words h rows all k r fresh next =
+one_then name v words h rows all k r fresh next =
+    let id = drop 2 name in
     let w = next (clean (rows ++ row id v ∷ [])) (clean_ready _) in
     let same : walked rules [] (walk_from h) (name ++ code "=" ∷ v) ≡ walk_from (clean (rows ++ row id v ∷ [])) =
-    one_walked name id v k h ∙ ap (λ (q : Held). walk_from (record q { rows = used_with id v q.rows })) r.settles ∙ ap (λ (rs : List Row). walk_from (clean rs)) (used_new name id v k rows fresh) in
+    one_walked name k v h ∙ ap (λ (q : Held). walk_from (record q { rows = used_with id v q.rows })) r.settles ∙ ap (λ (rs : List Row). walk_from (clean rs)) (used_new name k v rows fresh) in
     let new : has_row id (settled rules h).rows ≡ false = ap (λ (q : Held). has_row id q.rows) r.settles ∙ fresh in
     record {
       end = w.end;
       walks = ap (λ (q : Walk). fold (walked rules []) q words) same ∙ w.walks;
-      passes = ap₂ (λ (a b : Bool). a && b) (one_passes name id v k h r.passes new) (ap (λ (q : Walk). walk_passes shape [] q words) same ∙ w.passes);
+      passes = ap₂ (λ (a b : Bool). a && b) (one_passes name k v h r.passes new) (ap (λ (q : Walk). walk_passes shape [] q words) same ∙ w.passes);
       ready = w.ready;
     }
 
 -- an option in two words, and the words behind it
-two_then : (name id v : Text) (words : List Text) (h : Held) (rows all : List Row) → Known name id → IsNoFlag v → Ready h rows → has_row id rows ≡ false
-    → ((h : Held) → Ready h (rows ++ row id v ∷ []) → Walks words h all) → Walks (name ∷ v ∷ words) h all
+two_then : (name v : Text) (words : List Text) (h : Held) (rows all : List Row) → IsKnown name → IsNoFlag v → Ready h rows → has_row (drop 2 name) rows ≡ false
+    → ((h : Held) → Ready h (rows ++ row (drop 2 name) v ∷ []) → Walks words h all) → Walks (name ∷ v ∷ words) h all
 unfolding walk_passes
-two_then name id v words h rows all k n r fresh next =
-    let w = next (holds rows id v) (holds_ready name id v k rows fresh) in
+two_then name v words h rows all k n r fresh next =
+    let id = drop 2 name in
+    let w = next (holds rows id v) (holds_ready name k v rows fresh) in
     let first : walked rules [] (walk_from h) name ≡ waits rows id =
-    name_walked name id k h ∙ ap (λ (q : Held). record (waits [] id) { held = record q { pending = Some (id, []) } }) r.settles in
-    let second : walked rules [] (waits rows id) v ≡ walk_from (holds rows id v) = value_walked id v rows name k n in
+    name_walked name k h ∙ ap (λ (q : Held). record (waits [] id) { held = record q { pending = Some (id, []) } }) r.settles in
+    let second : walked rules [] (waits rows id) v ≡ walk_from (holds rows id v) = value_walked name k v rows n in
     let same : walked rules [] (walked rules [] (walk_from h) name) v ≡ walk_from (holds rows id v) = ap (λ (q : Walk). walked rules [] q v) first ∙ second in
     record {
       end = w.end;
       walks = ap (λ (q : Walk). fold (walked rules []) q words) same ∙ w.walks;
-      passes = ap₂ (λ (a b : Bool). a && b) (name_passes name id k h r.passes)
-          (ap₂ (λ (a b : Bool). a && b) (ap (λ (q : Walk). turn_passes shape [] q v) first ∙ value_passes id v rows name k n) (ap (λ (q : Walk). walk_passes shape [] q words) same ∙ w.passes));
+      passes = ap₂ (λ (a b : Bool). a && b) (name_passes name k h r.passes)
+          (ap₂ (λ (a b : Bool). a && b) (ap (λ (q : Walk). turn_passes shape [] q v) first ∙ value_passes name k v rows n) (ap (λ (q : Walk). walk_passes shape [] q words) same ∙ w.passes));
       ready = w.ready;
     }
 
@@ -376,10 +261,10 @@ two_then name id v words h rows all k n r fresh next =
 
 -- from any rows that lack these options the parser comes to a row more for each
 abbrev Goes : List Text → List Setting → Type 0
-Goes words given = (h : Held) (rows : List Row) → are_options given ≡ true → Ready h rows → are_new rows given ≡ true → Walks words h (rows ++ map row_of given)
+Goes words given = (h : Held) (rows : List Row) → are_known given ≡ true → Ready h rows → are_new rows given ≡ true → Walks words h (rows ++ map row_of given)
 
 -- the options behind the one at the front
-goes_on : (name v : Text) (words : List Text) (more : List Setting) (rows : List Row) → Goes words more → are_options (record { name = name; value = Some v } ∷ more) ≡ true
+goes_on : (name v : Text) (words : List Text) (more : List Setting) (rows : List Row) → Goes words more → are_known (record { name = name; value = Some v } ∷ more) ≡ true
     → are_new rows (record { name = name; value = Some v } ∷ more) ≡ true → (h : Held) → Ready h (rows ++ row (drop 2 name) v ∷ [])
     → Walks words h (rows ++ map row_of (record { name = name; value = Some v } ∷ more))
 goes_on name v words more rows next e new h r =
@@ -390,12 +275,12 @@ goes_on name v words more rows next e new h r =
 goes_one : (name v : Text) (words : List Text) (more : List Setting) → Goes words more → Goes ((name ++ code "=" ∷ v) ∷ words) (record { name = name; value = Some v } ∷ more)
 goes_one name v words more next h rows e r new =
     let f = front (record { name = name; value = Some v }) more e in
-    one_then name (drop 2 name) v words h rows _ f.name r (are_new_here rows (record { name = name; value = Some v }) more new) (goes_on name v words more rows next e new)
+    one_then name v words h rows _ f.name r (are_new_here rows (record { name = name; value = Some v }) more new) (goes_on name v words more rows next e new)
 
 goes_two : (name v : Text) (words : List Text) (more : List Setting) → Goes words more → Goes (name ∷ v ∷ words) (record { name = name; value = Some v } ∷ more)
 goes_two name v words more next h rows e r new =
     let f = front (record { name = name; value = Some v }) more e in
-    two_then name (drop 2 name) v words h rows _ f.name (no_flag v f.value) r (are_new_here rows (record { name = name; value = Some v }) more new) (goes_on name v words more rows next e new)
+    two_then name v words h rows _ f.name (no_flag v f.value) r (are_new_here rows (record { name = name; value = Some v }) more new) (goes_on name v words more rows next e new)
 
 -- an option without a value isn't plain
 goes_lone : (name : Text) (words : List Text) (more : List Setting) → Goes words (record { name = name; value = None } ∷ more)
@@ -437,7 +322,7 @@ new_from_none : (given : List Setting) → are_new [] given ≡ true
 new_from_none [] = refl
 new_from_none (g ∷ more) = new_from_none more
 
-line_walks : (words : List Text) → are_options (options words) ≡ true → Walks words nothing_held (map row_of (options words))
+line_walks : (words : List Text) → are_known (options words) ≡ true → Walks words nothing_held (map row_of (options words))
 line_walks words e = goes words nothing_held [] e (clean_ready []) (new_from_none (options words))
 
 -- where no rule has a default, none is added
@@ -458,22 +343,22 @@ there None e = absurd (cc)
 there (Some v) e = refl
 
 -- the first value of an id is that of its option
-first_is : (name id : Text) → Known name id → (given : List Setting) → are_options given ≡ true → first_of id (map row_of given) ≡ value_of name given
-first_is name id k [] e = refl
-first_is name id k (g ∷ more) e = go (first_is name id k more f.rest) (bytes_eq g.name name) refl
+first_is : (name : Text) → IsKnown name → (given : List Setting) → are_known given ≡ true → first_of (drop 2 name) (map row_of given) ≡ value_of name given
+first_is name k [] e = refl
+first_is name k (g ∷ more) e = go (first_is name k more f.rest) (bytes_eq g.name name) refl
   where
     f : Front g more
     f = front g more e
 
-    same : bytes_eq (drop 2 g.name) id ≡ bytes_eq g.name name
-    same = same_name g.name (drop 2 g.name) name id f.name k
+    same : bytes_eq (drop 2 g.name) (drop 2 name) ≡ bytes_eq g.name name
+    same = same_name g.name name f.name k
 
-    go : first_of id (map row_of more) ≡ value_of name more → (t : Bool) → bytes_eq g.name name ≡ t → first_of id (map row_of (g ∷ more)) ≡ value_of name (g ∷ more)
-    go rest true is = let id_is : bytes_eq (drop 2 g.name) id ≡ true = same ∙ is in rw (id_is, is) (there g.value f.value)
-    go rest false is = let id_is : bytes_eq (drop 2 g.name) id ≡ false = same ∙ is in rw (id_is, is) rest
+    go : first_of (drop 2 name) (map row_of more) ≡ value_of name more → (t : Bool) → bytes_eq g.name name ≡ t → first_of (drop 2 name) (map row_of (g ∷ more)) ≡ value_of name (g ∷ more)
+    go rest true is = let id_is : bytes_eq (drop 2 g.name) (drop 2 name) ≡ true = same ∙ is in rw (id_is, is) (there g.value f.value)
+    go rest false is = let id_is : bytes_eq (drop 2 g.name) (drop 2 name) ≡ false = same ∙ is in rw (id_is, is) rest
 
 -- what the parser makes of the words behind a command is what a plain line says
-rows_are : (words : List Text) → are_options (options words) ≡ true → finished rules (walk rules [] nothing_held words).held ≡ map row_of (options words)
+rows_are : (words : List Text) → are_known (options words) ≡ true → finished rules (walk rules [] nothing_held words).held ≡ map row_of (options words)
 unfolding shape verify_app
 rows_are words e =
     let w = line_walks words e in
@@ -496,7 +381,7 @@ all_pass : {a b c d : Bool} → a ≡ true → b ≡ true → c ≡ true → d �
 all_pass p q r t = rw (p, q, r, t) refl
 
 -- the parser takes the words behind a command
-level : (words : List Text) → are_options (options words) ≡ true → level_passes shape [] nothing_held words false ≡ true
+level : (words : List Text) → are_known (options words) ≡ true → level_passes shape [] nothing_held words false ≡ true
 level words e =
     let w = line_walks words e in
     let ends : settle_passes rules false (walk rules [] nothing_held words).held ≡ true = ap (λ (q : Walk). settle_passes rules false q.held) w.walks ∙ w.ready.passes in
@@ -506,30 +391,43 @@ level words e =
 
 -- ---- what the parser promises
 
--- behind a command stand options
-of_command : (name command : Text) (words : List Text) → is_command name (command ∷ words) ≡ true → are_options (options words) ≡ true
-of_command name command words e = (both (bytes_eq command name) _ e).1
+-- names that are among others
+among_more : (a b : List Text) → list_all (is_among b) a ≡ true → (name : Text) → is_among a name ≡ true → is_among b name ≡ true
+among_more [] b e name is = absurd (cc)
+among_more (first ∷ a) b e name is = elim (either (bytes_eq name first) (is_among a name) is) [
+  | inl same ↦ subst (λ (n : Text). is_among b n ≡ true) (sym ((bytes_eq-Decides name first).0 same)) (both _ _ e).0
+  | inr rest ↦ among_more a b (both _ _ e).1 name rest
+]
 
--- a line of a command, by the tests that follow
-of_two : (name command : Text) (words : List Text) (a b : Bool) → (is_command name (command ∷ words) && a && b) ≡ true → are_options (options words) ≡ true
-of_two name command words a b e = of_command name command words (both _ a (both _ b e).0).0
+-- options of a command are some that the parser knows
+are_some : (must may : List Text) → list_all (is_among option_names) must ≡ true → list_all (is_among option_names) may ≡ true → (given : List Setting) → are_options must may given ≡ true → are_known given ≡ true
+are_some must may a b [] e = refl
+are_some must may a b (g ∷ more) e =
+    let s = both ((is_among must g.name || is_among may g.name) && is_value g.value && not (stands g.name more)) _ e in
+    let v = both ((is_among must g.name || is_among may g.name) && is_value g.value) _ s.0 in
+    let n = both (is_among must g.name || is_among may g.name) _ v.0 in
+    let known : is_among option_names g.name ≡ true = elim (either (is_among must g.name) (is_among may g.name) n.0) [ inl o ↦ among_more must option_names a g.name o | inr o ↦ among_more may option_names b g.name o ] in
+    rw (known, n.1, v.1) (are_some must may a b more s.1)
 
-of_three : (name command : Text) (words : List Text) (a b c : Bool) → (is_command name (command ∷ words) && a && b && c) ≡ true → are_options (options words) ≡ true
-of_three name command words a b c e = of_two name command words a b (both _ c e).0
+of_command : (name command : Text) (must may words : List Text) → list_all (is_among option_names) must ≡ true → list_all (is_among option_names) may ≡ true
+    → is_command name must may (command ∷ words) ≡ true → are_known (options words) ≡ true
+of_command name command must may words a b e =
+    let all = λ (option : Text). stands option (options words) in
+    are_some must may a b (options words) (both (bytes_eq command name) _ (both _ (list_all all must) e).0).1
 
-plain_line : (command : Text) (words : List Text) → is_asking (command ∷ words) ≡ true → are_options (options words) ≡ true
+plain_line : (command : Text) (words : List Text) → is_asking (command ∷ words) ≡ true → are_known (options words) ≡ true
 plain_line command words e = let line = command ∷ words in elim (either (is_verify line || is_bounded line || is_lumped line || is_property line) (is_cost line) e) [
   | inl o ↦ elim (either (is_verify line || is_bounded line || is_lumped line) (is_property line) o) [
     | inl o ↦ elim (either (is_verify line || is_bounded line) (is_lumped line) o) [
       | inl o ↦ elim (either (is_verify line) (is_bounded line) o) [
-        | inl v ↦ of_two (codes "verify") command words (tells_goal line) (not (has (codes "--steps") line)) v
-        | inr b ↦ of_three (codes "bounded") command words (tells_goal line) (has (codes "--steps") line) (not (has (codes "--from") line)) b
+        | inl v ↦ of_command (codes "verify") command (codes "--goal" ∷ codes "--bound" ∷ []) (codes "--from" ∷ common_options) words refl refl v
+        | inr b ↦ of_command (codes "bounded") command (codes "--goal" ∷ codes "--bound" ∷ codes "--steps" ∷ []) common_options words refl refl b
       ]
-      | inr l ↦ of_three (codes "lumped") command words (tells_goal line) (not (has (codes "--steps") line)) (not (has (codes "--from") line)) l
+      | inr l ↦ of_command (codes "lumped") command (codes "--goal" ∷ codes "--bound" ∷ []) common_options words refl refl l
     ]
-    | inr p ↦ of_three (codes "property") command words (tells_formula line) (not (has (codes "--steps") line)) (not (has (codes "--from") line)) p
+    | inr p ↦ of_command (codes "property") command (codes "--formula" ∷ []) common_options words refl refl p
   ]
-  | inr c ↦ of_three (codes "cost") command words (tells_cost line) (not (has (codes "--steps") line)) (not (has (codes "--from") line)) c
+  | inr c ↦ of_command (codes "cost") command (codes "--goal" ∷ codes "--reward" ∷ codes "--budget" ∷ codes "--cap" ∷ []) common_options words refl refl c
 ]
 
 -- the parser takes the words, and what it finds in them
@@ -546,12 +444,12 @@ taken [] e = absurd (cc)
 taken (command ∷ words) e = leaf_takes (built verify_app) nothing_held words refl (level words (plain_line command words e))
 
 -- and finds the values that stand there
-found : (words : List Text) → is_asking words ≡ true → (name id : Text) → Known name id → first_of id (line_rows words) ≡ value_of name (options (drop 1 words))
+found : (words : List Text) → is_asking words ≡ true → (name : Text) → IsKnown name → first_of (drop 2 name) (line_rows words) ≡ value_of name (options (drop 1 words))
 unfolding line_rows verify_app shape
-found [] e name id k = absurd (cc)
-found (command ∷ words) e name id k =
+found [] e name k = absurd (cc)
+found (command ∷ words) e name k =
     let p = plain_line command words e in
-    ap (first_of id) (rows_are words p) ∙ first_is name id k (options words) p
+    ap (first_of (drop 2 name)) (rows_are words p) ∙ first_is name k (options words) p
 
 -- what the parser promises of its rules, said of these options
 pub passes_line : {T : Type 0} (a : App) (words : List Text) (r : Result T Error) → a ≡ verify_app → is_asking words ≡ true
@@ -564,25 +462,12 @@ simple : is_simple verify_app ≡ true
 unfolding verify_app
 simple = refl
 
-value_found : (a : App) (words : List Text) (m : ArgMatches) → a ≡ verify_app → is_asking words ≡ true → HasMatchesOf a words m → (name id : Text) → Known name id
-    → first_value (found_of m) id ≡ value_of name (options (drop 1 words))
+value_found : (a : App) (words : List Text) (m : ArgMatches) → a ≡ verify_app → is_asking words ≡ true → HasMatchesOf a words m → HasValues (found_of m) (options (drop 1 words))
 unfolding line_rows
-value_found a words m is plain h name id k =
-    first_value-rows (found_of m) id ∙ ap (first_of id) ((h (ap is_simple is ∙ simple)).0 ∙ ap (λ (b : App). matches_of b words) is) ∙ found words plain name id k
+value_found a words m is plain h name k =
+    first_value-rows (found_of m) (drop 2 name) ∙ ap (first_of (drop 2 name)) ((h (ap is_simple is ∙ simple)).0 ∙ ap (λ (b : App). matches_of b words) is) ∙ found words plain name k
 
 pub values_found : (a : App) (words : List Text) (r : Result ArgMatches Error) → a ≡ verify_app → is_asking words ≡ true → IfOk r (HasMatchesOf a words)
     → IfOk r (λ m. HasValues (found_of m) (options (drop 1 words)))
 values_found a words (Err e) is plain h = tt
-values_found a words (Ok m) is plain h = record {
-  goal = value_found a words m is plain h (codes "--goal") (codes "goal") goal;
-  bound = value_found a words m is plain h (codes "--bound") (codes "bound") bound;
-  region = value_found a words m is plain h (codes "--region") (codes "region") region;
-  depth = value_found a words m is plain h (codes "--depth") (codes "depth") depth;
-  precision = value_found a words m is plain h (codes "--precision") (codes "precision") precision;
-  steps = value_found a words m is plain h (codes "--steps") (codes "steps") steps;
-  from = value_found a words m is plain h (codes "--from") (codes "from") from;
-  formula = value_found a words m is plain h (codes "--formula") (codes "formula") formula;
-  reward = value_found a words m is plain h (codes "--reward") (codes "reward") reward;
-  budget = value_found a words m is plain h (codes "--budget") (codes "budget") budget;
-  cap = value_found a words m is plain h (codes "--cap") (codes "cap") cap;
-}
+values_found a words (Ok m) is plain h = value_found a words m is plain h

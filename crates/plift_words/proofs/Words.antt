@@ -145,7 +145,21 @@ verify_lines words e = of_first (is_asking words) (verified words) (other_job wo
 -- the values that the parser found on a plain line make its job
 pub found_job : (words : List (List ℕ)) (found : Found) → is_asking words ≡ true → HasValues found (options (drop 1 words)) → job words ≡ asking_job words (λ name. first_value found (drop 2 name))
 found_job [] found e h = absurd (cc)
-found_job (command ∷ words) found e h = rw (e, h.goal, h.bound, h.region, h.depth, h.precision, h.steps, h.from, h.formula, h.reward, h.budget, h.cap) refl
+found_job (command ∷ words) found e h =
+    rw (
+      e,
+      h (codes "--goal") refl,
+      h (codes "--bound") refl,
+      h (codes "--region") refl,
+      h (codes "--depth") refl,
+      h (codes "--precision") refl,
+      h (codes "--steps") refl,
+      h (codes "--from") refl,
+      h (codes "--formula") refl,
+      h (codes "--reward") refl,
+      h (codes "--budget") refl,
+      h (codes "--cap") refl,
+    ) refl
 
 -- ---- lines of the other commands
 

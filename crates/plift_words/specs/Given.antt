@@ -1,10 +1,11 @@
 -- What reading the command line gives, without where it lies in memory.
-use Rattle.std.specs.Prelude.{◌≡◌, ⊤, List, String, string_bytes, map, Ok, Err, Result, option_map}
+use Rattle.std.specs.Prelude.{◌≡◌, ⊤, ℕ, List, String, string_bytes, map, Ok, Err, Result, option_map}
 use Rattle.std.specs.Option.{option_copied}
 use Rattle.std.specs.declared.alloc.Global.{Global}
 use Rattle.plift_words.specs.Line as line
 use Rattle.plift_words.specs.Job.{JobData, VerifyData, job}
 use Rattle.plift_words.specs.declared.line.Setting.{Setting}
+use Rattle.plift_words.specs.declared.line.Form.{Form}
 use Rattle.plift_words.specs.declared.job.Job.{Job}
 use Rattle.plift_words.specs.declared.job.Job.TheVariants as code
 use Rattle.plift_words.specs.declared.job.VerifyJob.{VerifyJob}
@@ -16,6 +17,14 @@ use Rattle.plift_words.specs.declared.error.WordsError.TheVariants as error
 -- an option
 abbrev pub setting_of : Setting → line.Setting
 setting_of s = record { name = s.name.now; value = option_map (λ v. v.now) s.value }
+
+-- the options that have to stand behind a command
+abbrev pub must_of : Form → List (List ℕ)
+must_of f = map (λ name. name.now) f.must.now
+
+-- those that may
+abbrev pub may_of : Form → List (List ℕ)
+may_of f = map (λ name. name.now) f.may.now
 
 -- the job that some words ask for, or their part at fault
 abbrev pub asked : List (String Global) → Result JobData Field

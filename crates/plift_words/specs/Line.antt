@@ -1,7 +1,7 @@
 -- The words of the command line, and which lines are plain.
 use Prim.Native.Char.{code}
 use Rattle.std.specs.Prelude.{◌&&◌, ◌||◌, is_some, ℕ, List, [], ◌∷◌, codes, drop, Option, Some, None, Bool, true, false, not, option_and_then, if◌then◌else◌, nat_eq}
-use Rattle.std.specs.List.{starts_with, list_any, find}
+use Rattle.std.specs.List.{starts_with, list_all, list_any, find}
 use Rattle.std.specs.Str.{bytes_eq}
 use Rattle.lift_frac.specs.Written.{cut_at}
 
@@ -36,70 +36,50 @@ stands name settings = list_any (λ s. bytes_eq s.name name) settings
 abbrev pub value_of : List ℕ → List Setting → Option (List ℕ)
 value_of name settings = option_and_then (λ s. s.value) (find (λ s. bytes_eq s.name name) settings)
 
--- the names of the options of `verify`, `bounded`, `lumped`, `property` and `cost`
-abbrev pub is_option : List ℕ → Bool
-is_option name = list_any (bytes_eq name) (codes "--goal" ∷ codes "--bound" ∷ codes "--region" ∷ codes "--depth" ∷ codes "--precision" ∷ codes "--steps" ∷ codes "--from" ∷ codes "--formula" ∷ codes "--reward" ∷ codes "--budget" ∷ codes "--cap" ∷ [])
+-- one of these names
+abbrev pub is_among : List (List ℕ) → List ℕ → Bool
+is_among names name = list_any (bytes_eq name) names
 
 -- a value is there, and doesn't begin with `-`
 abbrev pub is_value : Option (List ℕ) → Bool
 is_value None = false
 is_value (Some word) = not (starts_with nat_eq word (codes "-"))
 
--- options, each with its value, and each at most once
-abbrev pub are_options : List Setting → Bool
-are_options [] = true
-are_options (s ∷ more) = is_option s.name && is_value s.value && not (stands s.name more) && are_options more
+-- options of these names, each with its value, and each at most once
+abbrev pub are_options : List (List ℕ) → List (List ℕ) → List Setting → Bool
+are_options must may [] = true
+are_options must may (s ∷ more) = (is_among must s.name || is_among may s.name) && is_value s.value && not (stands s.name more) && are_options must may more
 
 -- ---- plain lines, by their commands
 
--- this command, and behind it options in any order
-abbrev pub is_command : List ℕ → List (List ℕ) → Bool
-is_command name [] = false
-is_command name (command ∷ words) = bytes_eq command name && are_options (options words)
+-- this command, and behind it in any order each of the options that have to stand there, and of those that may stand there any
+abbrev pub is_command : List ℕ → List (List ℕ) → List (List ℕ) → List (List ℕ) → Bool
+is_command name must may [] = false
+is_command name must may (command ∷ words) = bytes_eq command name && are_options must may (options words) && list_all (λ option. stands option (options words)) must
 
--- an option of this name stands behind the command
-abbrev pub has : List ℕ → List (List ℕ) → Bool
-has name words = stands name (options (drop 1 words))
+-- the options that may stand behind each command that asks
+abbrev pub common_options : List (List ℕ)
+common_options = codes "--region" ∷ codes "--depth" ∷ codes "--precision" ∷ []
 
--- behind it stands an option that tells what is paid: the reward, the budget or the cap
-abbrev pub tells_payment : List (List ℕ) → Bool
-tells_payment words = has (codes "--reward") words || has (codes "--budget") words || has (codes "--cap") words
-
--- behind it stand the goal and the bound, no formula, and nothing of what is paid
-abbrev pub tells_goal : List (List ℕ) → Bool
-tells_goal words = has (codes "--goal") words && has (codes "--bound") words && not (has (codes "--formula") words) && not (tells_payment words)
-
--- behind it stands a formula, neither the goal nor the bound, and nothing of what is paid
-abbrev pub tells_formula : List (List ℕ) → Bool
-tells_formula words = has (codes "--formula") words && not (has (codes "--goal") words) && not (has (codes "--bound") words) && not (tells_payment words)
-
--- behind it stand the reward, the budget and the cap
-abbrev pub tells_limits : List (List ℕ) → Bool
-tells_limits words = has (codes "--reward") words && has (codes "--budget") words && has (codes "--cap") words
-
--- behind it stand the goal and all of what is paid, and neither a bound nor a formula
-abbrev pub tells_cost : List (List ℕ) → Bool
-tells_cost words = has (codes "--goal") words && tells_limits words && not (has (codes "--bound") words) && not (has (codes "--formula") words)
-
--- the command `verify`, and behind it the goal, the bound and other options, without a number of steps
+-- the command `verify`
 abbrev pub is_verify : List (List ℕ) → Bool
-is_verify words = is_command (codes "verify") words && tells_goal words && not (has (codes "--steps") words)
+is_verify = is_command (codes "verify") (codes "--goal" ∷ codes "--bound" ∷ []) (codes "--from" ∷ common_options)
 
--- the command `bounded`, and behind it a number of steps and the options of `verify`, without a range of precisions
+-- the command `bounded`
 abbrev pub is_bounded : List (List ℕ) → Bool
-is_bounded words = is_command (codes "bounded") words && tells_goal words && has (codes "--steps") words && not (has (codes "--from") words)
+is_bounded = is_command (codes "bounded") (codes "--goal" ∷ codes "--bound" ∷ codes "--steps" ∷ []) common_options
 
--- the command `lumped`, and behind it the options of `verify`, without a range of precisions
+-- the command `lumped`
 abbrev pub is_lumped : List (List ℕ) → Bool
-is_lumped words = is_command (codes "lumped") words && tells_goal words && not (has (codes "--steps") words) && not (has (codes "--from") words)
+is_lumped = is_command (codes "lumped") (codes "--goal" ∷ codes "--bound" ∷ []) common_options
 
--- the command `property`, and behind it a formula and of the options of `verify` the region, the depth and the precision
+-- the command `property`
 abbrev pub is_property : List (List ℕ) → Bool
-is_property words = is_command (codes "property") words && tells_formula words && not (has (codes "--steps") words) && not (has (codes "--from") words)
+is_property = is_command (codes "property") (codes "--formula" ∷ []) common_options
 
--- the command `cost`, and behind it the goal, a reward, a budget, a cap, and of the options of `verify` the region, the depth and the precision
+-- the command `cost`
 abbrev pub is_cost : List (List ℕ) → Bool
-is_cost words = is_command (codes "cost") words && tells_cost words && not (has (codes "--steps") words) && not (has (codes "--from") words)
+is_cost = is_command (codes "cost") (codes "--goal" ∷ codes "--reward" ∷ codes "--budget" ∷ codes "--cap" ∷ []) common_options
 
 -- one of these five
 abbrev pub is_asking : List (List ℕ) → Bool

@@ -1,18 +1,19 @@
 // The words of the command line.
-ghost use Rattle.std.specs.Prelude.{◌≡◌, ◌&&◌, ◌<◌, ◌≤◌, ◌∷◌, [], None, length, map, not};
+ghost use Rattle.std.specs.Prelude.{◌≡◌, ◌&&◌, ◌||◌, ◌<◌, ◌≤◌, ◌∷◌, [], None, length, map, not};
 ghost use Rattle.std.specs.Prelude.{string_bytes, IfSome, MatchOption};
+ghost use Rattle.std.specs.List.{list_all};
 ghost use Rattle.std.specs.Option.{option_map};
 ghost use Rattle.lift_bytes.specs.Bytes.{code};
 ghost use Rattle.lift_frac.specs.Written.{cut_at};
-ghost use Rattle.plift_words.specs.Line.{attached, options, stands};
-ghost use Rattle.plift_words.specs.Line.{is_option, is_value, are_options, is_command, has};
-ghost use Rattle.plift_words.specs.Line.{tells_goal, tells_formula, tells_payment, tells_limits, tells_cost};
+ghost use Rattle.plift_words.specs.Line.{attached, options, stands, is_among, is_value, are_options, is_command};
 ghost use Rattle.plift_words.specs.Line.{is_verify, is_bounded, is_lumped, is_property, is_cost, is_asking};
-ghost use Rattle.plift_words.specs.Line.{is_alone, is_check, is_migrate, word_behind};
-ghost use Rattle.plift_words.specs.Line.{only, depth_in, depth_behind};
-ghost use Rattle.plift_words.specs.Given.{setting_of};
+ghost use Rattle.plift_words.specs.Line.{is_alone, is_check, is_migrate, word_behind, only, depth_in, depth_behind};
+ghost use Rattle.plift_words.specs.Given.{setting_of, must_of, may_of};
 
 use lift_frac::cut_at;
+
+/// The options that may stand behind each command that asks.
+const COMMON_OPTIONS: [&str; 3] = ["--region", "--depth", "--precision"];
 
 /// An option as it stands in a line.
 #[derive(Clone, Copy)]
@@ -83,20 +84,16 @@ fn stands(name: &str, words: &[String]) -> bool
     false
 }
 
-fn is_option(name: &str) -> bool
-    ensures { result ≡ is_option name.now }
+// Whether it is one of these names.
+fn is_among(names: &[&str], name: &str) -> bool
+    ensures { result ≡ is_among (map (λ n. n.now) names.now) name.now }
 {
-    name == "--goal"
-        || name == "--bound"
-        || name == "--region"
-        || name == "--depth"
-        || name == "--precision"
-        || name == "--steps"
-        || name == "--from"
-        || name == "--formula"
-        || name == "--reward"
-        || name == "--budget"
-        || name == "--cap"
+    for known in names {
+        if name == *known {
+            return true;
+        }
+    }
+    false
 }
 
 fn is_value(value: Option<&str>) -> bool
@@ -108,137 +105,113 @@ fn is_value(value: Option<&str>) -> bool
     }
 }
 
-// Whether it is an option with its value, which doesn't stand once more behind it.
-fn is_sound(setting: Setting<'_>, more: &[String]) -> bool
-    ensures { let s = setting_of setting.entry in
-        result ≡ (is_option s.name && is_value s.value
-        && not (stands s.name (options (map string_bytes more.now)))) }
-{
-    is_option(setting.name) && is_value(setting.value) && !stands(setting.name, more)
+// What stands behind a command: the options that have to, and those that may.
+#[derive(Clone, Copy)]
+struct Form<'a> {
+    must: &'a [&'a str],
+    may: &'a [&'a str],
 }
 
-fn are_options(words: &[String]) -> bool
-    ensures { result ≡ are_options (options (map string_bytes words.now)) }
-{
-    let mut rest = words;
-    while let Some((setting, more)) = first_option(rest) {
-        if !is_sound(setting, more) {
-            return false;
+impl Form<'_> {
+    // Whether it is one of these options with its value, which doesn't stand once more behind it.
+    fn takes(&self, setting: Setting<'_>, more: &[String]) -> bool
+        ensures { let s = setting_of setting.entry in
+            result ≡ ((is_among (must_of self.now) s.name || is_among (may_of self.now) s.name) && is_value s.value
+            && not (stands s.name (options (map string_bytes more.now)))) }
+    {
+        (is_among(self.must, setting.name) || is_among(self.may, setting.name))
+            && is_value(setting.value)
+            && !stands(setting.name, more)
+    }
+
+    // Whether the words are such options, with their values, each at most once.
+    fn are_options(&self, words: &[String]) -> bool
+        ensures { result ≡ are_options (must_of self.now) (may_of self.now) (options (map string_bytes words.now)) }
+    {
+        let mut rest = words;
+        while let Some((setting, more)) = first_option(rest) {
+            if !self.takes(setting, more) {
+                return false;
+            }
+            rest = more;
         }
-        rest = more;
+        true
     }
-    true
-}
 
-// Whether the line is this command, and behind it options with their values, each at most once.
-fn is_command(name: &str, words: &[String]) -> bool
-    ensures { result ≡ is_command name.now (map string_bytes words.now) }
-{
-    let [command, options @ ..] = words else {
-        return false;
-    };
-    command.as_str() == name && are_options(options)
-}
-
-// Whether an option of this name stands behind the command.
-fn has(name: &str, words: &[String]) -> bool
-    ensures { result ≡ has name.now (map string_bytes words.now) }
-{
-    match words {
-        [_, options @ ..] => stands(name, options),
-        [] => false,
+    // Whether each of those that have to stand there does.
+    fn all_stand(&self, words: &[String]) -> bool
+        ensures { result ≡ list_all (λ option. stands option (options (map string_bytes words.now))) (must_of self.now) }
+    {
+        for name in self.must {
+            if !stands(name, words) {
+                return false;
+            }
+        }
+        true
     }
-}
 
-// Whether an option that tells what is paid stands behind the command.
-fn tells_payment(words: &[String]) -> bool
-    ensures { result ≡ tells_payment (map string_bytes words.now) }
-{
-    has("--reward", words) || has("--budget", words) || has("--cap", words)
-}
-
-// Whether the goal and the bound stand behind the command, no formula, and nothing of what is paid.
-fn tells_goal(words: &[String]) -> bool
-    ensures { result ≡ tells_goal (map string_bytes words.now) }
-{
-    has("--goal", words)
-        && has("--bound", words)
-        && !has("--formula", words)
-        && !tells_payment(words)
-}
-
-// Whether a formula stands behind the command, neither the goal nor the bound, and nothing of what is paid.
-fn tells_formula(words: &[String]) -> bool
-    ensures { result ≡ tells_formula (map string_bytes words.now) }
-{
-    has("--formula", words)
-        && !has("--goal", words)
-        && !has("--bound", words)
-        && !tells_payment(words)
-}
-
-// Whether the reward, the budget and the cap stand behind the command.
-fn tells_limits(words: &[String]) -> bool
-    ensures { result ≡ tells_limits (map string_bytes words.now) }
-{
-    has("--reward", words) && has("--budget", words) && has("--cap", words)
-}
-
-// Whether the goal and all of what is paid stand behind the command, and neither a bound nor a formula.
-fn tells_cost(words: &[String]) -> bool
-    ensures { result ≡ tells_cost (map string_bytes words.now) }
-{
-    has("--goal", words)
-        && tells_limits(words)
-        && !has("--bound", words)
-        && !has("--formula", words)
+    // Whether the line is this command, and behind it such options.
+    fn is_command(&self, name: &str, words: &[String]) -> bool
+        ensures { result ≡ is_command name.now (must_of self.now) (may_of self.now) (map string_bytes words.now) }
+    {
+        let [command, options @ ..] = words else {
+            return false;
+        };
+        command.as_str() == name && self.are_options(options) && self.all_stand(options)
+    }
 }
 
 fn is_verify(words: &[String]) -> bool
     ensures { result ≡ is_verify (map string_bytes words.now) }
 {
-    is_command("verify", words) && tells_goal(words) && !has("--steps", words)
+    let form = Form {
+        must: &["--goal", "--bound"],
+        may: &["--from", "--region", "--depth", "--precision"],
+    };
+    form.is_command("verify", words)
 }
 
 fn is_bounded(words: &[String]) -> bool
     ensures { result ≡ is_bounded (map string_bytes words.now) }
 {
-    is_command("bounded", words)
-        && tells_goal(words)
-        && has("--steps", words)
-        && !has("--from", words)
+    let form = Form {
+        must: &["--goal", "--bound", "--steps"],
+        may: &COMMON_OPTIONS,
+    };
+    form.is_command("bounded", words)
 }
 
-/// Whether the line is the command `lumped`, and behind it the options of `verify`, without a range of precisions.
+/// Whether the line is the command `lumped`, and behind it its options.
 pub fn is_lumped(words: &[String]) -> bool
     ensures { result ≡ is_lumped (map string_bytes words.now) }
 {
-    is_command("lumped", words)
-        && tells_goal(words)
-        && !has("--steps", words)
-        && !has("--from", words)
+    let form = Form {
+        must: &["--goal", "--bound"],
+        may: &COMMON_OPTIONS,
+    };
+    form.is_command("lumped", words)
 }
 
-/// Whether the line is the command `property`, and behind it a formula and of the options of `verify` the region, the
-/// depth and the precision.
+/// Whether the line is the command `property`, and behind it its options.
 pub fn is_property(words: &[String]) -> bool
     ensures { result ≡ is_property (map string_bytes words.now) }
 {
-    is_command("property", words)
-        && tells_formula(words)
-        && !has("--steps", words)
-        && !has("--from", words)
+    let form = Form {
+        must: &["--formula"],
+        may: &COMMON_OPTIONS,
+    };
+    form.is_command("property", words)
 }
 
-/// Whether the line is the command `cost`, and behind it the goal, a reward, a budget, a cap, and of the options of
-/// `verify` the region, the depth and the precision.
+/// Whether the line is the command `cost`, and behind it its options.
 pub fn is_cost(words: &[String]) -> bool
     ensures { result ≡ is_cost (map string_bytes words.now) }
 {
-    is_command("cost", words)
-        && tells_cost(words)
-        && !has("--steps", words)
-        && !has("--from", words)
+    let form = Form {
+        must: &["--goal", "--reward", "--budget", "--cap"],
+        may: &COMMON_OPTIONS,
+    };
+    form.is_command("cost", words)
 }
 
 /// Whether the line is the command `verify`, `bounded`, `lumped`, `property` or `cost`, and behind it its options with

@@ -1,9 +1,0 @@
-use Rattle.std.proofs.Common.{◌≡◌, length, map, string_bytes}
-use Rattle.plift_words.specs.Line.{options, are_options}
-use Rattle.plift_words.proofs.line.are_options.Given as goal
-
-abbrev pub invariant-loop-setting : goal.invariant-loop-setting
-invariant-loop-setting l = are_options (options (map string_bytes l.rest)) ≡ are_options (options (map string_bytes l.words))
-
-abbrev pub decreases-loop-setting : goal.decreases-loop-setting
-decreases-loop-setting l = length l.rest
