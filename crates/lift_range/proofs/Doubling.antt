@@ -1,5 +1,5 @@
 -- Vectors and certificates with each number doubled, at a greater precision.
-use Rattle.std.proofs.Common.{◌≡◌, ℕ, zero, suc, ◌+◌, ◌-◌, ◌^◌, ◌≤◌, List, [], ◌∷◌, All, ℤ, pos, ◌*ℤ◌, ◌≤ℤ◌, ◌<ℤ◌, refl, sym, ap, ◌∙◌, subst, arith}
+use Rattle.std.proofs.Common.{◌≡◌, ℕ, zero, suc, ◌+◌, ◌-◌, ◌^◌, ◌≤◌, Bool, true, false, List, [], ◌∷◌, All, ℤ, pos, ◌*ℤ◌, ◌≤ℤ◌, ◌<ℤ◌, refl, sym, ap, ◌∙◌, subst, arith}
 use Rattle.std.proofs.lemmas.List.{length-map}
 use Rattle.std.proofs.lemmas.List.Elements.{All-map}
 use Rattle.std.proofs.lemmas.Nat.{pow-add, pow_pos}
@@ -15,8 +15,11 @@ use Rattle.corner_lift.specs.Certificate.{AreNumbers, MeansAtMost, MeansAtLeast,
 use Rattle.lift_cert.specs.declared.bound.Bound.{Bound}
 use Rattle.lift_cert.specs.Certificate.{IsAccepting, IsRejecting, IsWithin, IsBeyond}
 use Rattle.lift_cert.specs.Laws.{NotBothKinds}
-use Rattle.lift_range.specs.Doubled.{doubled, doubled_data}
-use Rattle.lift_range.specs.Laws.{AcceptingDoubles, RejectingDoubles, NoneAcceptsBelow, NoneRejectsBelow, NotBothKindsAtPrecisions}
+use Rattle.lower_cert.specs.AnyRanks.{IsUnboundedLower}
+use Rattle.property_text.specs.declared.op.Op.TheVariants.{AtMost, Below, AtLeast, Above}
+use Rattle.lift_dual.specs.Sides.{RowHolds, IsUpperOne, IsLowerAll}
+use Rattle.lift_range.specs.Doubled.{doubled, doubled_data, doubled_unbounded}
+use Rattle.lift_range.specs.Laws.{AcceptingDoubles, RejectingDoubles, NoneAcceptsBelow, NoneRejectsBelow, NotBothKindsAtPrecisions, UpperDoubles, UpperOneDoubles, LowerDoubles, LowerAllDoubles, UnboundedLowerDoubles, LowSideDoubles, HighSideDoubles}
 
 -- ---- numbers
 
@@ -83,14 +86,14 @@ module _ (k : CaseData) (spans : Spans) (u s : ℕ) where
       let sum = corner_sum k.d spans row c (number x) in
       rw (sum_doubled k.d spans row c s x, number_doubled s x i) (omega (arith, linear, scaled_le s (number x i *ℤ all) sum (least c lt), swap (number x i) all (pos (2 ^ s))))
 
-uppers_double : (k : CaseData) (spans : Spans) (u s : ℕ) (x : List ℤ) → IsUpper (at k u) spans x → IsUpper (at k (u + s)) spans (doubled s x)
+pub uppers_double : UpperDoubles
 uppers_double k spans u s x h = record {
   numbers = numbers_double k spans u s x h.numbers;
   goal = λ i is. top_doubled k spans u s x i (h.goal i is);
   means = λ i is. All-each (λ row. MeansAtMost (at k u) spans row x (number x i)) (λ row. MeansAtMost (at k (u + s)) spans row (doubled s x) (number (doubled s x) i)) (λ row. most_doubled k spans u s row x i) (choices k.model i) (h.means i is);
 }
 
-lowers_double : (k : CaseData) (spans : Spans) (u s : ℕ) (r : RejectData) → IsLower (at k u) spans r → IsLower (at k (u + s)) spans (doubled_data s r)
+pub lowers_double : LowerDoubles
 lowers_double k spans u s r h = record {
   numbers = numbers_double k spans u s r.numbers h.numbers;
   sizes = h.sizes;
@@ -106,6 +109,45 @@ lowers_double k spans u s r h = record {
   };
 }
 
+pub uppers_one_double : UpperOneDoubles
+uppers_one_double k spans u s x picks h = record {
+  numbers = numbers_double k spans u s x h.numbers;
+  size = h.size;
+  goal = λ i is. (top_doubled k spans u s x i (h.goal i is).0, (h.goal i is).1);
+  pick = h.pick;
+  means = λ i lt is. most_doubled k spans u s _ x i (h.means i lt is);
+}
+
+pub lowers_all_double : LowerAllDoubles
+lowers_all_double k spans u s r h = record {
+  numbers = numbers_double k spans u s r.numbers h.numbers;
+  sizes = h.sizes;
+  marks = h.marks;
+  bounds = h.bounds;
+  goal = λ i is. (top_doubled k spans u s r.numbers i (h.goal i is).0, (h.goal i is).1);
+  unranked = λ i is past. number_doubled s r.numbers i ∙ ap (λ n. n *ℤ pos (2 ^ s)) (h.unranked i is past) ∙ zero-mul (pos (2 ^ s));
+  held = λ i is lt. let held = h.held i is lt in record {
+    rank = held.rank;
+    rows = All-each (RowHolds (at k u) spans r i) (RowHolds (at k (u + s)) spans (doubled_data s r) i) (λ row holds. record { means = least_doubled k spans u s row r.numbers i holds.means; rates = holds.rates }) (choices k.model i) held.rows;
+  };
+}
+
+pub unbounded_double : UnboundedLowerDoubles
+unbounded_double k spans u s r h = record {
+  numbers = numbers_double k spans u s r.numbers h.numbers;
+  bounds = h.bounds;
+  goal = λ i is. (top_doubled k spans u s r.numbers i (h.goal i is).0, (h.goal i is).1, (h.goal i is).2);
+  unranked = λ i is past. (number_doubled s r.numbers i ∙ ap (λ n. n *ℤ pos (2 ^ s)) (h.unranked i is past).0 ∙ zero-mul (pos (2 ^ s)), (h.unranked i is past).1);
+  held = λ i rank is some. let held = h.held i rank is some in record {
+    range = held.range;
+    choice = held.choice;
+    is_choice = held.is_choice;
+    in_range = held.in_range;
+    means = least_doubled k spans u s _ r.numbers i held.means;
+    rates = held.rates;
+  };
+}
+
 -- ---- certificates
 
 module _ (bound : Bound) (u s : ℕ) (n : ℤ) where
@@ -116,6 +158,26 @@ module _ (bound : Bound) (u s : ℕ) (n : ℤ) where
   beyond_doubles : IsBeyond bound u n → IsBeyond bound (u + s) (n *ℤ pos (2 ^ s))
   beyond_doubles h =
       omega (arith, linear, scaled_lt s (pos bound.num *ℤ pos (2 ^ u)) (n *ℤ pos bound.den) h, swap n (pos bound.den) (pos (2 ^ s)), mul-assoc (pos bound.num) (pos (2 ^ u)) (pos (2 ^ s)), ap (λ z. pos bound.num *ℤ z) (power_sum u s))
+
+  below_doubles : (n *ℤ pos bound.den) <ℤ (pos bound.num *ℤ pos (2 ^ u)) → ((n *ℤ pos (2 ^ s)) *ℤ pos bound.den) <ℤ (pos bound.num *ℤ pos (2 ^ (u + s)))
+  below_doubles h =
+      omega (arith, linear, scaled_lt s (n *ℤ pos bound.den) (pos bound.num *ℤ pos (2 ^ u)) h, swap n (pos bound.den) (pos (2 ^ s)), mul-assoc (pos bound.num) (pos (2 ^ u)) (pos (2 ^ s)), ap (λ z. pos bound.num *ℤ z) (power_sum u s))
+
+  above_doubles : (pos bound.num *ℤ pos (2 ^ u)) ≤ℤ (n *ℤ pos bound.den) → (pos bound.num *ℤ pos (2 ^ (u + s))) ≤ℤ ((n *ℤ pos (2 ^ s)) *ℤ pos bound.den)
+  above_doubles h =
+      omega (arith, linear, scaled_le s (pos bound.num *ℤ pos (2 ^ u)) (n *ℤ pos bound.den) h, swap n (pos bound.den) (pos (2 ^ s)), mul-assoc (pos bound.num) (pos (2 ^ u)) (pos (2 ^ s)), ap (λ z. pos bound.num *ℤ z) (power_sum u s))
+
+pub low_doubles : LowSideDoubles
+low_doubles AtMost bound u s x i h = rw (number_doubled s x i) (within_doubles bound u s (number x i) h)
+low_doubles Below bound u s x i h = rw (number_doubled s x i) (below_doubles bound u s (number x i) h)
+low_doubles AtLeast bound u s x i h = rw (number_doubled s x i) (below_doubles bound u s (number x i) h)
+low_doubles Above bound u s x i h = rw (number_doubled s x i) (within_doubles bound u s (number x i) h)
+
+pub high_doubles : HighSideDoubles
+high_doubles AtMost bound u s x i h = rw (number_doubled s x i) (beyond_doubles bound u s (number x i) h)
+high_doubles Below bound u s x i h = rw (number_doubled s x i) (above_doubles bound u s (number x i) h)
+high_doubles AtLeast bound u s x i h = rw (number_doubled s x i) (above_doubles bound u s (number x i) h)
+high_doubles Above bound u s x i h = rw (number_doubled s x i) (beyond_doubles bound u s (number x i) h)
 
 pub accepting_doubles : AcceptingDoubles
 accepting_doubles k spans bound u s x h = record {

@@ -3,4 +3,4 @@
 
 mod laws;
 
-pub use laws::{certificates_double, precisions_agree};
+pub use laws::{certificates_double, precisions_agree, vectors_double};

@@ -1,5 +1,5 @@
 // The text of a case for a property, which is written while its tree is walked over.
-ghost use Rattle.std.specs.Prelude.{◌≡◌, ℕ};
+ghost use Rattle.std.specs.Prelude.{◌≡◌, None, ℕ};
 ghost use Rattle.std.specs.List.{concat};
 ghost use Rattle.lift_base.specs.Outside.{Wrote, WroteSome};
 ghost use Rattle.lift_model.specs.Links.{AreLinks};
@@ -74,6 +74,7 @@ fn write_property<K: Sink>(
 ) -> Result<(), WriteFault>
     requires links { AreLinks question.now.case.now.model question.now.links.now }
     requires made { IsMadeFor question.now.case.now question.now.links.now room.old }
+    requires from { question.now.from ≡ None }
     ensures { WroteSome (IsPropertyText question.now.case.now question.now.op question.now.bound)
         K.taken K.faults out.old out.new result }
 {
@@ -90,7 +91,7 @@ struct PropertyReport<'q, 'c, 'm, 'r> {
 
 impl<'q, 'c, 'm, 'r> Telling for PropertyReport<'q, 'c, 'm, 'r> {
     ghost is_ready = { λ r. AreLinks r.question.now.case.now.model r.question.now.links.now
-        × IsMadeFor r.question.now.case.now r.question.now.links.now r.room.now };
+        × IsMadeFor r.question.now.case.now r.question.now.links.now r.room.now × (r.question.now.from ≡ None) };
 
     ghost is_text = { λ r bytes. IsPropertyText r.question.now.case.now r.question.now.op r.question.now.bound bytes };
 
@@ -107,6 +108,7 @@ pub(crate) fn write_property_buffered<K: Sink>(
 ) -> Result<(), WriteFault>
     requires links { AreLinks question.now.case.now.model question.now.links.now }
     requires made { IsMadeFor question.now.case.now question.now.links.now room.old }
+    requires from { question.now.from ≡ None }
     ensures { WroteSome (IsPropertyText question.now.case.now question.now.op question.now.bound)
         K.taken K.faults out.old out.new result }
 {

@@ -263,6 +263,7 @@ fn write_case_for<K: Sink>(
     requires case { IsTestedCase question.now.case.now }
     requires links { AreLinks question.now.case.now.model question.now.links.now }
     requires made { whole.IsMadeFor question.now.case.now question.now.links.now room.old }
+    requires from { question.now.from ≡ None }
     ensures { (a : AskedModel) → question.now.case.now.model ≡ cut a
         → WritesCase K.taken K.faults question.now.case.now
         (property_question a question.now.case.now question.now.op question.now.bound) out.old out.new result }
@@ -293,6 +294,7 @@ fn write_for<K: Sink>(
         links: question.links,
         op,
         bound: question.bound,
+        from: None,
     };
     let written = write_case_for(&asked, &mut room, out);
     drop(room);

@@ -2,9 +2,10 @@
 use Rattle.std.proofs.Common.{◌≡◌, true, false, true≢false, Bool, List, ℕ, ℤ, pos, ◌+ℤ◌, ◌≤ℤ◌, ◌<ℤ◌, Option, Some, None, IfSome, MatchOption, refl, sym, ◌∙◌, subst, arith}
 use Rattle.lift_poly.proofs.Ring.{linear}
 use Rattle.lift_grid.specs.Rectangle.{Spans}
-use Rattle.corner_lift.specs.Case.{CaseData, IsCase, number}
+use Rattle.corner_lift.specs.Case.{CaseData, IsCase, at, number}
 use Rattle.corner_lift.specs.Certificate.{IsUpper}
 use Rattle.lift_cert.specs.declared.bound.Bound.{Bound}
+use Rattle.lift_range.specs.Range.{Between}
 use Rattle.lower_cert.specs.declared.greatest.Rate.{Rate}
 use Rattle.lower_cert.specs.AnyRanks.{RanksFit, UnboundedReject, IsUnboundedLower}
 use Rattle.lower_cert.specs.Limit.{IsGreatestAbove, NoneIsAbove}
@@ -16,12 +17,13 @@ use Rattle.lift_dual.specs.Sides.{IsUpperOne}
 use Rattle.lift_dual.specs.Choosing.{IsLeastUpperOneWithin}
 use Rattle.lift_dual.specs.Greatest.{IsGreatestAllAbove, NoneOfAllIsAbove}
 use Rattle.region_tree.specs.Decided.{lane, reject_in}
-use Rattle.region_tree.specs.Sides.{IsTold}
+use Rattle.region_tree.specs.Sides.{IsDecidedFrom, IsDecidedOver, IsFound, IsUndecided}
 use Rattle.region_tree.specs.declared.pools.Pools.{Pools}
+use Rattle.region_tree.specs.declared.side.Found.{Found}
 use Rattle.region_tree.specs.declared.side.Side.{Side}
 use Rattle.region_tree.specs.declared.side.Side.TheVariants.{Above, Below}
-use Rattle.property_tree.specs.Leaves.{PropertyLeaf, IsCertificate, Settles, DecidesFor, IsOpenFor, bounds_above}
-use Rattle.property_tree.specs.Decided.{NoneFromAbove, NoneFromBelow, decides_above, decides_below, leaf_in, lower_all_in, lower_in, upper_in}
+use Rattle.property_tree.specs.Leaves.{PropertyLeaf, IsCertificate, Settles, DecidesFor, DecidesOver, IsOpenFor, IsOpenOver, bounds_above}
+use Rattle.property_tree.specs.Decided.{NoneFromAbove, NoneFromBelow, leaf_in, lower_all_in, lower_in, range_leaf_in, sought_of, upper_in}
 use Rattle.property_tree.proofs.Beside.{low_below, high_above}
 
 module _ (k : CaseData) (op : Op) (bound : Bound) (spans : Spans) (limit : ℤ) (low : IsLowSide op bound k.w limit) (high : IsHighSide op bound k.w (limit +ℤ pos 1)) (apart : SidesAreApart) where
@@ -110,9 +112,25 @@ is_open k op bound spans above below = record { none = of_kind; none_higher = be
     of_kind (PropertyLeaf.lower r) certificate settles = below.none (PropertyLeaf.lower r) refl certificate settles
     of_kind (PropertyLeaf.lower_all r) certificate settles = below.none (PropertyLeaf.lower_all r) refl certificate settles
 
--- what is told of a rectangle, as its leaf
-pub told_is_decided : (k : CaseData) (op : Op) (bound : Bound) (spans : Spans) (p : Pools) (found : Option Side) → IsTold (decides_above op bound) (decides_below op bound) (λ c. NoneFromAbove c op bound) (λ c. NoneFromBelow c op bound) k spans p found
-    → MatchOption found (IsOpenFor k op bound spans) (λ side. DecidesFor k op bound spans (leaf_in op p side))
-told_is_decided k op bound spans p (Some Above) told = told
-told_is_decided k op bound spans p (Some (Below rate)) told = told
-told_is_decided k op bound spans p None told = is_open k op bound spans told.0 told.1
+-- what decides from a side, as its leaf
+side_decides : (k : CaseData) (op : Op) (bound : Bound) (spans : Spans) (p : Pools) (side : Side) → IsDecidedFrom (sought_of op bound) k spans p side → DecidesFor k op bound spans (leaf_in op p side)
+side_decides k op bound spans p Above h = h
+side_decides k op bound spans p (Below rate) h = h
+
+module _ (k : CaseData) (v : ℕ) (op : Op) (bound : Bound) (spans : Spans) (p : Pools) where
+  open_at : (u : ℕ) → IsUndecided (sought_of op bound) (at k u) spans → IsOpenFor (at k u) op bound spans
+  open_at u none = is_open (at k u) op bound spans none.0 none.1
+
+  -- what was found for a range, as its leaf
+  pub found_over : (found : Option Found) → IsFound (sought_of op bound) k v spans p found → MatchOption found (IsOpenOver k v op bound spans) (λ f. DecidesOver k v op bound spans (range_leaf_in op p f))
+  found_over (Some f) h = record { between = h.between; before = λ t le lt. open_at t (h.before t le lt); decides = side_decides (at k f.u) op bound spans p f.side h.decided }
+  found_over None h = λ u between. open_at u (h u between)
+
+-- what was found at the case's precision alone
+pub found_alone : (k : CaseData) (op : Op) (bound : Bound) (spans : Spans) (p : Pools) (found : Found) → IsDecidedOver (sought_of op bound) k k.w spans p found → DecidesFor k op bound spans (leaf_in op p found.side)
+found_alone k op bound spans p found h =
+    let e : found.u ≡ k.w = omega (arith, h.between.0, h.between.1) in
+    side_decides k op bound spans p found.side (subst (λ n. IsDecidedFrom (sought_of op bound) (at k n) spans p found.side) e h.decided)
+
+pub open_alone : (k : CaseData) (op : Op) (bound : Bound) (spans : Spans) → ((u : ℕ) → Between k.w k.w u → IsUndecided (sought_of op bound) (at k u) spans) → IsOpenFor k op bound spans
+open_alone k op bound spans none = let here = none k.w (omega arith, omega arith) in is_open k op bound spans here.0 here.1

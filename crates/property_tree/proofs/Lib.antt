@@ -1,5 +1,6 @@
 pub mod Beside
 pub mod Deciding
+pub mod Doubling
 pub mod Single
 pub mod Texts
 pub mod Lanes

@@ -18,7 +18,7 @@ use Rattle.region_tree.specs.Decided.{lane, reject_in}
 use Rattle.region_tree.specs.Laws.{MeetingRectanglesShare}
 use Rattle.region_tree.specs.Sides.{AreApart}
 use Rattle.region_tree.specs.declared.pools.Pools.{Pools}
-use Rattle.property_tree.specs.Decided.{NoneFromAbove, NoneFromBelow, decides_above, decides_below, lower_all_in, lower_in, upper_in}
+use Rattle.property_tree.specs.Decided.{lower_all_in, lower_in, sought_of, upper_in}
 use Rattle.property_tree.specs.Leaves.{PropertyLeaf, IsCertificate, Settles, bounds_above}
 use Rattle.property_tree.proofs.Single.{certificate_of}
 
@@ -74,14 +74,14 @@ module _ (one_kind : NotBothKindsAtAValuation) (below_one : LowerAllIsBelowUpper
 
 -- ---- the sides of what stands in the lanes
 
-upper_bounds : (op : Op) (p : Pools) → bounds_above (upper_in op p) ≡ true
+pub upper_bounds : (op : Op) (p : Pools) → bounds_above (upper_in op p) ≡ true
 upper_bounds op p = of_kind (is_upper op)
   where
     of_kind : (b : Bool) → bounds_above (if b then PropertyLeaf.upper (lane p.values) else PropertyLeaf.upper_one (lane p.values) (lane p.picks)) ≡ true
     of_kind true = refl
     of_kind false = refl
 
-lower_bounds : (op : Op) (p : Pools) (e h : ℕ) → bounds_above (lower_in op p e h) ≡ false
+pub lower_bounds : (op : Op) (p : Pools) (e h : ℕ) → bounds_above (lower_in op p e h) ≡ false
 lower_bounds op p e h = of_kind (is_upper op)
   where
     of_kind : (b : Bool) → bounds_above (if b then PropertyLeaf.lower (reject_in p e h) else PropertyLeaf.lower_all (lower_all_in p e h)) ≡ false
@@ -90,7 +90,7 @@ lower_bounds op p e h = of_kind (is_upper op)
 
 -- where two rectangles share a valuation, not one is decided from above and the other from below
 pub sides_agree : NotBothKindsAtAValuation → LowerAllIsBelowUpperOne → SidesAreApart → NumbersAreInRange → MeetingRectanglesShare → RanksFit → (k : CaseData) → IsCase k → (op : Op) (bound : Bound)
-    → AreApart (decides_above op bound) (decides_below op bound) (λ c. NoneFromAbove c op bound) (λ c. NoneFromBelow c op bound) k
+    → AreApart (sought_of op bound) k
 sides_agree one_kind below_one apart numbers share fit k is op bound = record {
   above = λ spans others p inside there meet decides.
       let leaf = upper_in op p in

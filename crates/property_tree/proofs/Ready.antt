@@ -7,15 +7,17 @@ use Rattle.property_text.specs.declared.op.Op.{Op}
 use Rattle.region_tree.specs.Laws.{ForgettingKeepsShape, LanesAreKept, ShapesChain, ShapesStay}
 use Rattle.region_tree.specs.Recent.{DecidedData, forgotten}
 use Rattle.region_tree.specs.Rooms.{LanesData, HasLanes, KeepsShape}
-use Rattle.property_tree.specs.Ready.{AreKnownFor, AreReadyFor}
+use Rattle.region_tree.specs.Sides.{AreKnown}
+use Rattle.property_tree.specs.Decided.{sought_of}
+use Rattle.property_tree.specs.Ready.{AreReadyFor}
 
 -- where nothing is noted, nothing is said
-none_known : (k : CaseData) (op : Op) (bound : Bound) (d : DecidedData) → AreKnownFor k op bound (forgotten d)
+none_known : (k : CaseData) (op : Op) (bound : Bound) (d : DecidedData) → AreKnown (sought_of op bound) k (forgotten d)
 none_known k op bound d = record { accepted = λ i lt. absurd (omega (arith, lt)); rejected = λ i lt. absurd (omega (arith, lt)) }
 
 module _ (kept : LanesAreKept) (chain : ShapesChain) (k : CaseData) (l : LinksData) (op : Op) (bound : Bound) where
   -- a decision that keeps the shape of the lanes, and notes what it tells, leaves them ready
-  pub still_ready : (made a b : LanesData) → KeepsShape a b → AreKnownFor k op bound b.decided → AreReadyFor k l op bound made a → AreReadyFor k l op bound made b
+  pub still_ready : (made a b : LanesData) → KeepsShape a b → AreKnown (sought_of op bound) k b.decided → AreReadyFor k l op bound made a → AreReadyFor k l op bound made b
   still_ready made a b h known ready = record { links = ready.links; has = kept k.model l a b h ready.has; shape = chain made a b ready.shape h; known = known }
 
   module _ (forgetting : ForgettingKeepsShape) (a : LanesData) where

@@ -1,16 +1,18 @@
 -- A rectangle is decided by at most one leaf, and so there is at most one right tree.
-use Rattle.std.proofs.Common.{◌≡◌, ℕ, zero, suc, ◌+◌, ◌<◌, ◌≤◌, ◌⊎◌, inl, inr, ⊎_elim, Bool, true, false, true≢false, List, [], ◌∷◌, length, map, All, ℤ, pos, ◌<ℤ◌, refl, sym, ap, ◌∙◌, subst, arith, ext_get_or}
+use Rattle.std.proofs.Common.{◌≡◌, ℕ, zero, suc, ◌+◌, ◌<◌, ◌≤◌, ◌⊎◌, inl, inr, ⊎_elim, Bool, true, false, true≢false, List, [], ◌∷◌, length, map, All, ℤ, pos, ◌<ℤ◌, refl, sym, ap, ◌∙◌, subst, arith, ext_get_or, le_trans}
 use Rattle.std.proofs.lemmas.List.Elements.{All-head, All-tail}
 use Rattle.lift_poly.specs.Polynomial.{Valuation}
 use Rattle.lift_poly.proofs.Ring.{linear, mul-comm, mul-le}
 use Rattle.lift_grid.specs.Rectangle.{Spans, Inside, AreSpans}
 use Rattle.lift_grid.specs.Tree.{RejectData, lower_half, upper_half}
 use Rattle.lift_model.specs.Model.{is_goal}
-use Rattle.corner_lift.specs.Case.{CaseData, IsCase, IsInside, number}
+use Rattle.corner_lift.specs.Case.{CaseData, IsCase, IsInside, at, number}
 use Rattle.corner_lift.specs.Certificate.{AtMost, mark, unmarked}
+use Rattle.corner_lift.specs.Laws.{LowerPrecisionIsCase}
 use Rattle.lift_cert.specs.declared.bound.Bound.{Bound}
 use Rattle.lift_cert.specs.Laws.{LowerIsBelowUpper}
-use Rattle.lift_walk.specs.Halved.{Halved}
+use Rattle.lift_walk.specs.Bases.{LeavesAreOne as AreOne}
+use Rattle.lift_walk.specs.Halved.{Halved, IsRightBy}
 use Rattle.lift_walk.specs.Laws.{HalvesAreDeeper, SplitAxesAreOne}
 use Rattle.lift_walk.specs.Sides.{IsAtDepth}
 use Rattle.property_text.specs.declared.op.Op.{Op}
@@ -18,8 +20,8 @@ use Rattle.lift_dual.specs.Avoiding.{IsGreatestLowerAll, IsRateOfAll, StagesAreL
 use Rattle.lift_dual.specs.Laws.{LowerAllIsBelowUpperOne, SidesAreApart}
 use Rattle.lift_dual.specs.Choosing.{IsLowestSatisfied, IsLowestChoice, AreLowestChoices, IsLeastUpperOne}
 use Rattle.region_tree.specs.Laws.{LeastUppersAreOne, GreatestLowersAreOne}
-use Rattle.property_tree.specs.Laws.{LeavesAreOne}
-use Rattle.property_tree.specs.Leaves.{PropertyLeaf, IsCertificate, IsBest, DecidesFor, IsOpenFor, IsRightFor}
+use Rattle.property_tree.specs.Laws.{LeavesAreOne, RangeLeavesAreOne}
+use Rattle.property_tree.specs.Leaves.{PropertyLeaf, RangeLeaf, IsCertificate, IsBest, DecidesFor, DecidesOver, IsOpenFor, IsOpenOver}
 
 numbers_same : (x y : List ℤ) → length x ≡ length y → AtMost x y → AtMost y x → x ≡ y
 numbers_same x y size a b = ext_get_or (pos 0) x y size (λ i lt. omega (arith, linear, a i, b i))
@@ -175,23 +177,46 @@ certificate_of k spans (PropertyLeaf.upper_one x picks) best = best.upper
 certificate_of k spans (PropertyLeaf.lower r) best = best.holds
 certificate_of k spans (PropertyLeaf.lower_all r) best = best.holds
 
-module _ (k : CaseData) (op : Op) (bound : Bound) where
-  pub decided_not_open : (spans : Spans) (leaf : PropertyLeaf) → DecidesFor k op bound spans leaf → IsOpenFor k op bound spans → ⊥
-  decided_not_open spans leaf d opens = opens.none leaf (certificate_of k spans leaf d.0) d.1
+pub decided_not_open : (k : CaseData) (op : Op) (bound : Bound) (spans : Spans) (leaf : PropertyLeaf) → DecidesFor k op bound spans leaf → IsOpenFor k op bound spans → ⊥
+decided_not_open k op bound spans leaf d opens = opens.none leaf (certificate_of k spans leaf d.0) d.1
 
-  module _ (leaves : LeavesAreOne) (halves : HalvesAreDeeper) (axes : SplitAxesAreOne) (is : IsCase k) where
-    pub tree_is_one : (depth : ℕ) (ss : Spans) (t u : Halved PropertyLeaf) → IsAtDepth k depth ss → IsRightFor k op bound ss depth t → IsRightFor k op bound ss depth u → t ≡ u
-    tree_is_one depth ss (Halved.leaf a) (Halved.leaf b) at p q = ap (λ (l : PropertyLeaf). Halved.leaf l) (leaves k op bound ss a b is at.inside p q)
-    tree_is_one depth ss (Halved.leaf a) (Halved.split axis lower upper) at p q = absurd (decided_not_open ss a p q.0)
-    tree_is_one depth ss (Halved.leaf a) Halved.unknown at p q = absurd (decided_not_open ss a p q.0)
-    tree_is_one depth ss (Halved.split axis lower upper) (Halved.leaf b) at p q = absurd (decided_not_open ss b q p.0)
-    tree_is_one depth ss (Halved.split axis lower upper) (Halved.split other low up) at p q =
-        let same : other ≡ axis = axes _ ss other axis q.1.axis_is p.1.axis_is in
-        let deeper = halves k ss depth axis is at p.1.left p.1.axis_is in
-        let lows : lower ≡ low = tree_is_one (depth + 1) (lower_half axis ss) lower low deeper.0 p.2 (subst (λ a. IsRightFor k op bound (lower_half a ss) (depth + 1) low) same q.2) in
-        let ups : upper ≡ up = tree_is_one (depth + 1) (upper_half axis ss) upper up deeper.1 p.3 (subst (λ a. IsRightFor k op bound (upper_half a ss) (depth + 1) up) same q.3) in
-        cc
-    tree_is_one depth ss (Halved.split axis lower upper) Halved.unknown at p q = absurd (omega (arith, p.1.left, q.1))
-    tree_is_one depth ss Halved.unknown (Halved.leaf b) at p q = absurd (decided_not_open ss b q p.0)
-    tree_is_one depth ss Halved.unknown (Halved.split axis lower upper) at p q = absurd (omega (arith, q.1.left, p.1))
-    tree_is_one depth ss Halved.unknown Halved.unknown at p q = refl
+-- where a rectangle is decided by at most one leaf, and by none where it is open, there is at most one tree
+module _ {Leaf : Type 0} (decides : Spans → Leaf → Type 0) (opens : Spans → Type 0) (halves : HalvesAreDeeper) (axes : SplitAxesAreOne) (k : CaseData) (is : IsCase k) (leaves : AreOne k decides opens) where
+  pub tree_is_one : (depth : ℕ) (ss : Spans) (t u : Halved Leaf) → IsAtDepth k depth ss → IsRightBy decides opens k ss depth t → IsRightBy decides opens k ss depth u → t ≡ u
+  tree_is_one depth ss (Halved.leaf a) (Halved.leaf b) at p q = ap (λ (l : Leaf). Halved.leaf l) (leaves.one ss a b at.inside p q)
+  tree_is_one depth ss (Halved.leaf a) (Halved.split axis lower upper) at p q = absurd (leaves.none ss a at.inside p q.0)
+  tree_is_one depth ss (Halved.leaf a) Halved.unknown at p q = absurd (leaves.none ss a at.inside p q.0)
+  tree_is_one depth ss (Halved.split axis lower upper) (Halved.leaf b) at p q = absurd (leaves.none ss b at.inside q p.0)
+  tree_is_one depth ss (Halved.split axis lower upper) (Halved.split other low up) at p q =
+      let same : other ≡ axis = axes _ ss other axis q.1.axis_is p.1.axis_is in
+      let deeper = halves k ss depth axis is at p.1.left p.1.axis_is in
+      let lows : lower ≡ low = tree_is_one (depth + 1) (lower_half axis ss) lower low deeper.0 p.2 (subst (λ a. IsRightBy decides opens k (lower_half a ss) (depth + 1) low) same q.2) in
+      let ups : upper ≡ up = tree_is_one (depth + 1) (upper_half axis ss) upper up deeper.1 p.3 (subst (λ a. IsRightBy decides opens k (upper_half a ss) (depth + 1) up) same q.3) in
+      cc
+  tree_is_one depth ss (Halved.split axis lower upper) Halved.unknown at p q = absurd (omega (arith, p.1.left, q.1))
+  tree_is_one depth ss Halved.unknown (Halved.leaf b) at p q = absurd (leaves.none ss b at.inside q p.0)
+  tree_is_one depth ss Halved.unknown (Halved.split axis lower upper) at p q = absurd (omega (arith, q.1.left, p.1))
+  tree_is_one depth ss Halved.unknown Halved.unknown at p q = refl
+
+pub each_one : LeavesAreOne → (k : CaseData) (op : Op) (bound : Bound) → IsCase k → AreOne k (DecidesFor k op bound) (IsOpenFor k op bound)
+each_one leaves k op bound is = record { one = λ spans a b inside p q. leaves k op bound spans a b is inside p q; none = λ spans a inside. decided_not_open k op bound spans a }
+
+-- ---- a range of precisions
+
+range_open : (k : CaseData) (v : ℕ) (op : Op) (bound : Bound) (spans : Spans) (a : RangeLeaf) → DecidesOver k v op bound spans a → IsOpenOver k v op bound spans → ⊥
+range_open k v op bound spans a p opens = decided_not_open (at k a.u) op bound spans a.certificate p.decides (opens a.u p.between)
+
+pub range_leaf_is_one : LeavesAreOne → LowerPrecisionIsCase → RangeLeavesAreOne
+range_leaf_is_one leaves lower k v op bound spans a b is positive inside p q = ⊎_elim
+    (λ (less : a.u < b.u). absurd (decided_not_open (at k a.u) op bound spans a.certificate p.decides (q.before a.u p.between.0 less)))
+    (λ (rest : (a.u ≡ b.u) ⊎ (b.u < a.u)). ⊎_elim
+    (λ (same : a.u ≡ b.u).
+    let moved : DecidesFor (at k b.u) op bound spans a.certificate = subst (λ n. DecidesFor (at k n) op bound spans a.certificate) same p.decides in
+    let one : a.certificate ≡ b.certificate = leaves (at k b.u) op bound spans a.certificate b.certificate (lower k b.u is (le_trans positive q.between.0) q.between.1) inside moved q.decides in
+    ap (λ (n : ℕ). let x : RangeLeaf = record a { u = n } in x) same ∙ ap (λ (c : PropertyLeaf). let x : RangeLeaf = record b { certificate = c } in x) one)
+    (λ (more : b.u < a.u). absurd (decided_not_open (at k b.u) op bound spans b.certificate q.decides (p.before b.u q.between.0 more)))
+    rest)
+    (in_order a.u b.u)
+
+pub each_range_one : RangeLeavesAreOne → (k : CaseData) (v : ℕ) (op : Op) (bound : Bound) → IsCase k → 1 ≤ v → AreOne k (DecidesOver k v op bound) (IsOpenOver k v op bound)
+each_range_one leaves k v op bound is positive = record { one = λ spans a b inside p q. leaves k v op bound spans a b is positive inside p q; none = λ spans a inside. range_open k v op bound spans a }

@@ -9,7 +9,9 @@ use Rattle.property_text.specs.declared.op.Op.{Op}
 use Rattle.lift_dual.specs.Property.{is_upper, IsHighSide}
 use Rattle.region_tree.specs.Decided.{lane, reject_in, reject_of}
 use Rattle.region_tree.specs.declared.pools.Pools.{Pools}
-use Rattle.property_tree.specs.Leaves.{PropertyLeaf, IsCertificate, Settles, DecidesFor, bounds_above}
+use Rattle.region_tree.specs.Sides.{Certificates}
+use Rattle.property_tree.specs.Leaves.{PropertyLeaf, RangeLeaf, IsCertificate, Settles, DecidesFor, bounds_above}
+use Rattle.region_tree.specs.declared.side.Found.{Found}
 use Rattle.region_tree.specs.declared.side.Side.{Side}
 use Rattle.region_tree.specs.declared.side.Side.TheVariants.{Above, Below}
 
@@ -34,15 +36,20 @@ pub record NoneFromBelow (k : CaseData) (op : Op) (bound : Bound) (spans : Spans
   pub none : (leaf : PropertyLeaf) → bounds_above leaf ≡ false → IsCertificate k spans leaf → Settles k op bound leaf → ⊥
   pub none_higher : is_upper op ≡ true → (u : UnboundedReject) → IsUnboundedLower k spans u → IsHighSide op bound k.w (number u.numbers k.model.init) → ⊥
 
--- the certificate from above that stands in the lanes decides the rectangle
-abbrev pub decides_above : Op → Bound → CaseData → Spans → Pools → Type 0
-decides_above op bound k spans p = DecidesFor k op bound spans (upper_in op p)
-
--- that from below does, with e and k
-abbrev pub decides_below : Op → Bound → CaseData → Spans → Pools → ℕ → ℕ → Type 0
-decides_below op bound k spans p e height = DecidesFor k op bound spans (lower_in op p e height)
+-- what is sought for a comparison: the certificates that decide whether it holds
+abbrev pub sought_of : Op → Bound → Certificates
+sought_of op bound = record {
+  above = λ k spans p. DecidesFor k op bound spans (upper_in op p);
+  below = λ k spans p e height. DecidesFor k op bound spans (lower_in op p e height);
+  none_above = λ k spans. NoneFromAbove k op bound spans;
+  none_below = λ k spans. NoneFromBelow k op bound spans;
+}
 
 -- the leaf of a verdict, by the certificate that stands in the lanes
 abbrev pub leaf_in : Op → Pools → Side → PropertyLeaf
 leaf_in op p Above = upper_in op p
 leaf_in op p (Below rate) = lower_in op p rate.e rate.k
+
+-- the leaf of what was found for a range
+abbrev pub range_leaf_in : Op → Pools → Found → RangeLeaf
+range_leaf_in op p found = record { u = found.u; certificate = leaf_in op p found.side }

@@ -1,11 +1,12 @@
 -- The right tree of a case for a property that compares a probability with a bound: which rectangles are decided, by which certificate, and which are halved. The textbook's verdicts for the schedulers that reach the most and the least, on rectangles.
-use Rattle.std.specs.Prelude.{◌≡◌, ℕ, Bool, true, false, not, List, ℤ}
+use Rattle.std.specs.Prelude.{◌≡◌, ℕ, ◌<◌, ◌≤◌, Bool, true, false, not, List, ℤ}
 use Rattle.lift_grid.specs.Rectangle.{Spans}
 use Rattle.lift_grid.specs.Tree.{RejectData}
-use Rattle.corner_lift.specs.Case.{CaseData, number}
+use Rattle.corner_lift.specs.Case.{CaseData, at, number}
 use Rattle.corner_lift.specs.Certificate.{IsUpper, IsLower, IsLeastUpper}
 use Rattle.corner_lift.specs.Stages.{IsGreatestLower}
 use Rattle.lift_walk.specs.Halved.{Halved, IsRightBy}
+use Rattle.lift_range.specs.Range.{Between}
 use Rattle.lift_cert.specs.declared.bound.Bound.{Bound}
 use Rattle.lower_cert.specs.AnyRanks.{UnboundedReject, IsUnboundedLower}
 use Rattle.property_text.specs.declared.op.Op.{Op}
@@ -85,3 +86,24 @@ pub record IsOpenFor (k : CaseData) (op : Op) (bound : Bound) (spans : Spans) : 
 -- the right tree over a rectangle at a depth
 abbrev pub IsRightFor : CaseData → Op → Bound → Spans → ℕ → Halved PropertyLeaf → Type 0
 IsRightFor k op bound spans depth tree = IsRightBy (DecidesFor k op bound) (IsOpenFor k op bound) k spans depth tree
+
+-- ---- a range of precisions, from v to the case's own
+
+-- a decided leaf: its precision, and its certificate there
+pub record RangeLeaf : Type 0 where
+  pub u : ℕ
+  pub certificate : PropertyLeaf
+
+-- the leaf decides the rectangle, at the least precision of the range that does
+pub record DecidesOver (k : CaseData) (v : ℕ) (op : Op) (bound : Bound) (spans : Spans) (leaf : RangeLeaf) : Type 0 where
+  pub between : Between v k.w leaf.u
+  pub before : (t : ℕ) → v ≤ t → t < leaf.u → IsOpenFor (at k t) op bound spans
+  pub decides : DecidesFor (at k leaf.u) op bound spans leaf.certificate
+
+-- the rectangle is open: no precision of the range decides
+abbrev pub IsOpenOver : CaseData → ℕ → Op → Bound → Spans → Type 0
+IsOpenOver k v op bound spans = (u : ℕ) → Between v k.w u → IsOpenFor (at k u) op bound spans
+
+-- the right tree over a rectangle at a depth, for the range
+abbrev pub IsRightOver : CaseData → ℕ → Op → Bound → Spans → ℕ → Halved RangeLeaf → Type 0
+IsRightOver k v op bound spans depth tree = IsRightBy (DecidesOver k v op bound) (IsOpenOver k v op bound) k spans depth tree

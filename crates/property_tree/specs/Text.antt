@@ -1,15 +1,15 @@
 -- The text of a tree for a property: the lines of its nodes in preorder.
-use Rattle.std.specs.Prelude.{◌≡◌, ℕ, ◌*◌, ◌^◌, Bool, List, [], ◌∷◌, ◌++◌, ℤ, map, codes, if◌then◌else◌}
+use Rattle.std.specs.Prelude.{◌≡◌, ℕ, ◌*◌, ◌^◌, Option, Some, None, Bool, List, [], ◌∷◌, ◌++◌, ℤ, map, codes, if◌then◌else◌}
 use Rattle.std.specs.Fmt.{decimal, signed_decimal}
 use Prim.Native.Char.{code}
 use Rattle.lift_grid.specs.Rectangle.{Spans}
 use Rattle.lift_grid.specs.Tree.{RejectData}
-use Rattle.corner_lift.specs.Case.{CaseData, number}
+use Rattle.corner_lift.specs.Case.{CaseData, at, number}
 use Rattle.lift_cert.specs.declared.bound.Bound.{Bound}
 use Rattle.lift_walk.specs.Halved.{Halved, preorder_text}
-use Rattle.cert_text.specs.Report.{line, mark_word, numbers_words, split_line, unknown_line}
+use Rattle.cert_text.specs.Report.{at_line, line, mark_word, numbers_words, split_line, unknown_line}
 use Rattle.property_text.specs.declared.op.Op.{Op}
-use Rattle.property_tree.specs.Leaves.{PropertyLeaf, IsRightFor, holds_by}
+use Rattle.property_tree.specs.Leaves.{PropertyLeaf, RangeLeaf, IsRightFor, IsRightOver, holds_by}
 
 -- whether the property holds: a word alone on its line
 abbrev pub verdict_line : Bool → List ℕ
@@ -51,3 +51,18 @@ tree_text k op tree = preorder_text split_line (leaf_text k op) unknown_line tre
 -- the bytes are the text of a right tree over the rectangle at that depth
 abbrev pub IsTreeText : CaseData → Op → Bound → Spans → ℕ → List ℕ → Type 0
 IsTreeText k op bound spans depth bytes = (tree : Halved PropertyLeaf) × (IsRightFor k op bound spans depth tree × (bytes ≡ tree_text k op tree))
+
+-- ---- a range of precisions
+
+-- a decided leaf: its precision first
+abbrev pub range_leaf_text : CaseData → Op → RangeLeaf → List ℕ
+range_leaf_text k op leaf = at_line leaf.u ++ leaf_text (at k leaf.u) op leaf.certificate
+
+-- the nodes of a tree
+abbrev pub range_tree_text : CaseData → Op → Halved RangeLeaf → List ℕ
+range_tree_text k op tree = preorder_text split_line (range_leaf_text k op) unknown_line tree
+
+-- the bytes are the text of a right tree for what is asked, over the rectangle at that depth: for a range from that precision on, if there is one
+abbrev pub IsAskedText : CaseData → Option ℕ → Op → Bound → Spans → ℕ → List ℕ → Type 0
+IsAskedText k None op bound spans depth bytes = IsTreeText k op bound spans depth bytes
+IsAskedText k (Some v) op bound spans depth bytes = (tree : Halved RangeLeaf) × (IsRightOver k v op bound spans depth tree × (bytes ≡ range_tree_text k op tree))

@@ -179,6 +179,7 @@ pub fn build(
         links: &*links,
         op,
         bound,
+        from: None,
     };
     let decider = PropertyDecider {
         question: &question,

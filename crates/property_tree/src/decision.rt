@@ -1,6 +1,6 @@
 //! The decision of a rectangle.
 
-ghost use Rattle.property_tree.specs.Decided.{NoneFromAbove, NoneFromBelow, decides_above, decides_below};
+ghost use Rattle.property_tree.specs.Decided.{sought_of};
 
 use crate::sides::{greatest_low, is_upper};
 use crate::vectors::{lower_all_above, upper_one_within};
@@ -8,6 +8,7 @@ use corner_lift::{Case, rows_at_corners};
 use lift_cert::{Bound, certificates_are_of_one_kind};
 use lift_collapse::Collapse;
 use lift_dual::{all_and_one, sides_are_apart};
+use lift_range::vectors_double;
 use lower_cert::{Rate, ranks_fit};
 use property_text::Op;
 use region_tree::{Finder, Pools, Sought, meeting_rectangles_share};
@@ -20,13 +21,11 @@ pub(crate) struct Comparison {
 }
 
 impl Sought for Comparison {
-    ghost above = { λ asked. decides_above asked.op asked.bound };
+    ghost certificates = { λ asked. sought_of asked.op asked.bound };
 
-    ghost below = { λ asked. decides_below asked.op asked.bound };
-
-    ghost none_above = { λ asked k. NoneFromAbove k asked.op asked.bound };
-
-    ghost none_below = { λ asked k. NoneFromBelow k asked.op asked.bound };
+    fn limit(&self, u: u32) -> i64 {
+        greatest_low(self.op, self.bound, u)
+    }
 
     fn find_above(
         &self,
@@ -67,5 +66,9 @@ impl Sought for Comparison {
         meeting_rectangles_share();
         ranks_fit();
         let _ = case.w();
+    }
+
+    fn precisions_agree(&self, _case: &Case) {
+        vectors_double();
     }
 }

@@ -13,6 +13,6 @@ mod vectors;
 mod writers;
 
 pub use building::{DualBranch, DualTree, build};
-pub use laws::{leaves_are_one, property_trees_are_one};
+pub use laws::{leaves_are_one, property_trees_are_one, range_leaves_are_one, range_trees_are_one};
 pub use question::Question;
 pub use tree::write_tree;

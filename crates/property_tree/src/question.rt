@@ -11,4 +11,7 @@ pub struct Question<'a, 'm> {
     pub links: &'a Links,
     pub op: Op,
     pub bound: Bound,
+    /// The least precision of a range, from 1 to the case's, where each leaf tells its own. With none a rectangle is
+    /// decided at the case's precision.
+    pub from: Option<u32>,
 }

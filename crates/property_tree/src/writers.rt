@@ -1,8 +1,8 @@
 //! Writes the leaves of a tree.
 
-ghost use Rattle.std.specs.Prelude.{◌≡◌, ◌*◌, ◌^◌, ◌∷◌, ◌++◌, length, map, codes};
+ghost use Rattle.std.specs.Prelude.{◌≡◌, ◌≤◌, ◌*◌, ◌^◌, ◌∷◌, ◌++◌, length, map, codes};
 ghost use Rattle.lift_base.specs.Outside.{Wrote};
-ghost use Rattle.corner_lift.specs.Case.{number};
+ghost use Rattle.corner_lift.specs.Case.{at, most_precision, number};
 ghost use Rattle.cert_text.specs.Report.{line, mark_word, numbers_words};
 ghost use Rattle.region_tree.specs.Decided.{reject_in};
 ghost use Rattle.region_tree.specs.Rooms.{HasPools};
@@ -74,19 +74,21 @@ fn initial_number(case: &Case, numbers: &[i64]) -> i64
     numbers[init as usize]
 }
 
-/// Writes the first line of a lower vector.
+/// Writes the first line of a lower vector at the precision `u`.
 fn write_rate<K: Sink>(
     out: &mut K,
     case: &Case,
+    u: u32,
     rate: Rate,
     numbers: &[i64],
 ) -> Result<(), WriteFault>
+    requires u { u ≤ most_precision }
     requires numbers { length numbers.now ≡ length case.now.model.states }
     ensures { Wrote K.taken K.faults out.old out.new result
-        (lower_line rate.e rate.k (number numbers.now case.now.model.init) (2 ^ case.now.w)) }
+        (lower_line rate.e rate.k (number numbers.now case.now.model.init) (2 ^ u)) }
 {
     let initial = initial_number(case, numbers);
-    let one = one_at(case.w());
+    let one = one_at(u);
     let Rate { e, k } = rate;
     write_words(
         out,
@@ -110,16 +112,18 @@ fn write_rate<K: Sink>(
 fn write_numbers_below<K: Sink>(
     out: &mut K,
     case: &Case,
+    u: u32,
     rate: Rate,
     numbers: &[i64],
 ) -> Result<(), WriteFault>
-    requires { length numbers.now ≡ length case.now.model.states }
+    requires u { u ≤ most_precision }
+    requires numbers { length numbers.now ≡ length case.now.model.states }
     ensures { Wrote K.taken K.faults out.old out.new result
-        (lower_line rate.e rate.k (number numbers.now case.now.model.init) (2 ^ case.now.w)
+        (lower_line rate.e rate.k (number numbers.now case.now.model.init) (2 ^ u)
         ++ line (numbers_words (codes "y") numbers.now)) }
 {
     writes_in_turn::<K>();
-    write_rate(out, case, rate, numbers)?;
+    write_rate(out, case, u, rate, numbers)?;
     write_numbers(out, b"y", numbers)
 }
 
@@ -137,15 +141,17 @@ fn write_upper_one<K: Sink>(out: &mut K, numbers: &[i64], picks: &[u32]) -> Resu
 fn write_lower<K: Sink>(
     out: &mut K,
     case: &Case,
+    u: u32,
     rate: Rate,
     pools: &Pools,
 ) -> Result<(), WriteFault>
-    requires { HasPools case.now.model pools.now }
+    requires u { u ≤ most_precision }
+    requires pools { HasPools case.now.model pools.now }
     ensures { Wrote K.taken K.faults out.old out.new result
-        (certificate_text case.now (PropertyLeaf.lower (reject_in pools.now rate.e rate.k))) }
+        (certificate_text (at case.now u) (PropertyLeaf.lower (reject_in pools.now rate.e rate.k))) }
 {
     writes_in_turn::<K>();
-    write_numbers_below(out, case, rate, pools.values.lane(0))?;
+    write_numbers_below(out, case, u, rate, pools.values.lane(0))?;
     write_mark_line(out, b"choice", pools.picks.lane(0))?;
     write_mark_line(out, b"rank", pools.ranks.lane(0))
 }
@@ -154,24 +160,26 @@ fn write_lower<K: Sink>(
 fn write_lower_all<K: Sink>(
     out: &mut K,
     case: &Case,
+    u: u32,
     rate: Rate,
     pools: &Pools,
 ) -> Result<(), WriteFault>
-    requires { HasPools case.now.model pools.now }
+    requires u { u ≤ most_precision }
+    requires pools { HasPools case.now.model pools.now }
     ensures { Wrote K.taken K.faults out.old out.new result
-        (certificate_text case.now (PropertyLeaf.lower_all (lower_all_in pools.now rate.e rate.k))) }
+        (certificate_text (at case.now u) (PropertyLeaf.lower_all (lower_all_in pools.now rate.e rate.k))) }
 {
     writes_in_turn::<K>();
-    write_numbers_below(out, case, rate, pools.values.lane(0))?;
+    write_numbers_below(out, case, u, rate, pools.values.lane(0))?;
     write_mark_line(out, b"rank", pools.ranks.lane(0))
 }
 
 impl Question<'_, '_> {
-    /// Writes a leaf that a certificate from above decides.
-    fn write_above<K: Sink>(&self, pools: &Pools, out: &mut K) -> Result<(), WriteFault>
+    /// Writes a leaf that a certificate from above decides, at the precision `u`.
+    fn write_above<K: Sink>(&self, u: u32, pools: &Pools, out: &mut K) -> Result<(), WriteFault>
         requires { HasPools self.now.case.now.model pools.now }
         ensures { Wrote K.taken K.faults out.old out.new result
-            (leaf_text self.now.case.now self.now.op (upper_in self.now.op pools.now)) }
+            (leaf_text (at self.now.case.now u) self.now.op (upper_in self.now.op pools.now)) }
     {
         writes_in_turn::<K>();
         write_verdict(out, is_upper(self.op))?;
@@ -183,34 +191,43 @@ impl Question<'_, '_> {
     }
 
     /// Writes a leaf that one from below decides.
-    fn write_below<K: Sink>(&self, rate: Rate, pools: &Pools, out: &mut K) -> Result<(), WriteFault>
-        requires { HasPools self.now.case.now.model pools.now }
+    fn write_below<K: Sink>(
+        &self,
+        u: u32,
+        rate: Rate,
+        pools: &Pools,
+        out: &mut K,
+    ) -> Result<(), WriteFault>
+        requires u { u ≤ most_precision }
+        requires pools { HasPools self.now.case.now.model pools.now }
         ensures { Wrote K.taken K.faults out.old out.new result
-            (leaf_text self.now.case.now self.now.op (lower_in self.now.op pools.now rate.e rate.k)) }
+            (leaf_text (at self.now.case.now u) self.now.op (lower_in self.now.op pools.now rate.e rate.k)) }
     {
         writes_in_turn::<K>();
         write_verdict(out, !is_upper(self.op))?;
         if is_upper(self.op) {
-            write_lower(out, self.case, rate, pools)
+            write_lower(out, self.case, u, rate, pools)
         } else {
-            write_lower_all(out, self.case, rate, pools)
+            write_lower_all(out, self.case, u, rate, pools)
         }
     }
 
-    /// Writes a leaf by its verdict, with the certificate that stands in the lanes.
+    /// Writes a leaf by its verdict, with the certificate at the precision `u` that stands in the lanes.
     pub(crate) fn write_leaf<K: Sink>(
         &self,
+        u: u32,
         verdict: Side,
         pools: &Pools,
         out: &mut K,
     ) -> Result<(), WriteFault>
-        requires { HasPools self.now.case.now.model pools.now }
+        requires u { u ≤ most_precision }
+        requires pools { HasPools self.now.case.now.model pools.now }
         ensures { Wrote K.taken K.faults out.old out.new result
-            (leaf_text self.now.case.now self.now.op (leaf_in self.now.op pools.now verdict)) }
+            (leaf_text (at self.now.case.now u) self.now.op (leaf_in self.now.op pools.now verdict)) }
     {
         match verdict {
-            Side::Above => self.write_above(pools, out),
-            Side::Below(rate) => self.write_below(rate, pools, out),
+            Side::Above => self.write_above(u, pools, out),
+            Side::Below(rate) => self.write_below(u, rate, pools, out),
         }
     }
 }

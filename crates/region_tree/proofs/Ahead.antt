@@ -11,9 +11,10 @@ use Rattle.lift_walk.specs.Bases.{MayStand as MayStandBy}
 use Rattle.region_tree.specs.Bases.{Gives}
 use Rattle.region_tree.specs.Nodes.{Node, nodes}
 use Rattle.lower_cert.specs.AnyRanks.{RanksFit}
-use Rattle.region_tree.specs.Decided.{AreKnownFor}
+use Rattle.region_tree.specs.Decided.{sought_for}
 use Rattle.region_tree.specs.Recent.{DecidedData, NotesAccepted, NotesRejected}
 use Rattle.region_tree.specs.Right.{Decision, tree_from}
+use Rattle.region_tree.specs.Sides.{AreKnown}
 use Rattle.region_tree.specs.Walking.{MayStand}
 use Rattle.region_tree.specs.declared.base.Given.TheVariants.{Split, Accept, Reject, Unknown}
 use Rattle.region_tree.proofs.Meeting.{accepted_too, accepting_rejects_none, meeting_rectangles_share, rejected_too, rejecting_accepts_none}
@@ -57,20 +58,20 @@ module _ {B : Type 0} (is_ahead : B → List Node → Type 0) (bytes : B → Lis
   unknown_given gives Halved.unknown rest ahead = (refl, (gives Node.unknown rest ahead).1)
 
 -- a leaf of a base is noted: at the case's precision too it has its certificate, and so no rectangle that it shares a valuation with has one of the other kind
-module _ {B : Type 0} (is_ahead : B → List Node → Type 0) (bytes : B → List ℕ) (lines : Node → List ℕ) (old new : B) (one_kind : NotBothKindsAtAValuation) (k : CaseData) (is : IsCase k) (bound : Bound) (sides : List _) (inside : AreSidesInside k.root sides) (before after : DecidedData) (known : AreKnownFor k bound before) where
+module _ {B : Type 0} (is_ahead : B → List Node → Type 0) (bytes : B → List ℕ) (lines : Node → List ℕ) (old new : B) (one_kind : NotBothKindsAtAValuation) (k : CaseData) (is : IsCase k) (bound : Bound) (sides : List _) (inside : AreSidesInside k.root sides) (before after : DecidedData) (known : AreKnown (sought_for bound) k before) where
   here : IsInside k.root (spans_of sides)
   here = record { rectangle = inside.rectangle.spans; within = inside.within }
 
-  pub accept_noted : AcceptingDoubles → RanksFit → Gives is_ahead lines bytes old new Accept → (t : Halved Decision) (rest : List Node) → is_ahead old (nodes (tree_from t) ++ rest) → MayStandBy (MayStand k bound) (spans_of sides) t → NotesAccepted sides before after → AreKnownFor k bound after
+  pub accept_noted : AcceptingDoubles → RanksFit → Gives is_ahead lines bytes old new Accept → (t : Halved Decision) (rest : List Node) → is_ahead old (nodes (tree_from t) ++ rest) → MayStandBy (MayStand k bound) (spans_of sides) t → NotesAccepted sides before after → AreKnown (sought_for bound) k after
   accept_noted doubles fit gives t rest ahead may notes =
       let g = accept_given is_ahead bytes lines old new gives t rest ahead in
       let stands : MayStandBy (MayStand k bound) (spans_of sides) (Halved.leaf (Decision.accept g.0 g.1.0)) = subst (MayStandBy (MayStand k bound) (spans_of sides)) g.1.1.0 may in
       let last = accepting_at_last doubles k (spans_of sides) bound g.0 stands.1 g.1.0 stands.0 in
-      accepted_too _ _ k sides before after known (λ others there meet. accepting_rejects_none one_kind meeting_rectangles_share k is bound (spans_of sides) others here there meet fit last.0 last.1) notes
+      accepted_too (sought_for bound) k sides before after known (λ others there meet. accepting_rejects_none one_kind meeting_rectangles_share k is bound (spans_of sides) others here there meet fit last.0 last.1) notes
 
-  pub reject_noted : RejectingDoubles → Gives is_ahead lines bytes old new Reject → (t : Halved Decision) (rest : List Node) → is_ahead old (nodes (tree_from t) ++ rest) → MayStandBy (MayStand k bound) (spans_of sides) t → NotesRejected sides before after → AreKnownFor k bound after
+  pub reject_noted : RejectingDoubles → Gives is_ahead lines bytes old new Reject → (t : Halved Decision) (rest : List Node) → is_ahead old (nodes (tree_from t) ++ rest) → MayStandBy (MayStand k bound) (spans_of sides) t → NotesRejected sides before after → AreKnown (sought_for bound) k after
   reject_noted doubles gives t rest ahead may notes =
       let g = reject_given is_ahead bytes lines old new gives t rest ahead in
       let stands : MayStandBy (MayStand k bound) (spans_of sides) (Halved.leaf (Decision.reject g.0 g.1.0)) = subst (MayStandBy (MayStand k bound) (spans_of sides)) g.1.1.0 may in
       let last = rejecting_at_last doubles k (spans_of sides) bound g.0 stands.1 g.1.0 stands.0 in
-      rejected_too _ _ k sides before after known (λ others there meet. rejecting_accepts_none one_kind meeting_rectangles_share k is bound (spans_of sides) others here there meet last.0 last.1) notes
+      rejected_too (sought_for bound) k sides before after known (λ others there meet. rejecting_accepts_none one_kind meeting_rectangles_share k is bound (spans_of sides) others here there meet last.0 last.1) notes

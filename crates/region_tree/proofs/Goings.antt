@@ -6,9 +6,10 @@ use Rattle.corner_lift.specs.Case.{CaseData}
 use Rattle.lift_cert.specs.declared.bound.Bound.{Bound}
 use Rattle.lift_collapse.specs.Collapse.{IsCollapse}
 use Rattle.lift_range.specs.Range.{Between}
-use Rattle.region_tree.specs.Decided.{AreKnownFor}
+use Rattle.region_tree.specs.Decided.{sought_for}
 use Rattle.region_tree.specs.Recent.{DecidedData, HasAllPlaces, KeepsPlaces, forgotten}
 use Rattle.region_tree.specs.Rooms.{LanesData, HasLanes, KeepsShape}
+use Rattle.region_tree.specs.Sides.{AreKnown}
 use Rattle.region_tree.specs.Walking.{AreReady}
 use Rattle.region_tree.proofs.Shapes.{same_pool, pool_then, same_pools, pools_then, pools_kept}
 use Rattle.region_tree.proofs.Meeting.{none_known}
@@ -52,7 +53,7 @@ pub shape_with : (a b : LanesData) (d : DecidedData) → KeepsShape a b → Keep
 shape_with a b d h places = record { collapse = h.collapse; weights = h.weights; pools = h.pools; decided = places_then a.decided b.decided d h.decided places }
 
 -- a decision that keeps the shape of the lanes, and notes what it tells, leaves them ready
-pub still_ready : (k : CaseData) (l : LinksData) (bound : Bound) (from : ℕ) (made a b : LanesData) → KeepsShape a b → AreKnownFor k bound b.decided → AreReady k l bound from made a → AreReady k l bound from made b
+pub still_ready : (k : CaseData) (l : LinksData) (bound : Bound) (from : ℕ) (made a b : LanesData) → KeepsShape a b → AreKnown (sought_for bound) k b.decided → AreReady k l bound from made a → AreReady k l bound from made b
 still_ready k l bound from made a b h known ready = record {
   links = ready.links;
   range = ready.range;
@@ -65,7 +66,7 @@ still_ready k l bound from made a b h known ready = record {
 pub ready_at_first : (k : CaseData) (l : LinksData) (bound : Bound) (from : ℕ) (a : LanesData) → AreLinks k.model l → Between 1 k.w from → HasLanes k.model l a → let b : LanesData = record a { decided = forgotten a.decided } in AreReady k l bound from b b
 ready_at_first k l bound from a links range has =
     let b : LanesData = record a { decided = forgotten a.decided } in
-    record { links = links; range = range; has = lanes_kept k.model l a b (begun_keeps a) has; shape = same_shape b; known = none_known _ _ k a.decided }
+    record { links = links; range = range; has = lanes_kept k.model l a b (begun_keeps a) has; shape = same_shape b; known = none_known (sought_for bound) k a.decided }
 
 -- after a walk they have the shape that they had before it
 pub kept_since : (k : CaseData) (l : LinksData) (bound : Bound) (from : ℕ) (a b : LanesData) → AreReady k l bound from (record a { decided = forgotten a.decided }) b → KeepsShape a b

@@ -1,11 +1,12 @@
 pub mod OtherPrecision
+pub mod Settling
 pub mod Ranges
 pub mod Unique
 pub mod Tiling
 pub mod Shapes
 pub mod Shown
 pub mod Verdicts
-pub mod Found
+pub mod Collapses
 pub mod Goings
 mod Samples
 pub mod Joining

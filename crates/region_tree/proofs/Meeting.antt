@@ -14,7 +14,7 @@ use Rattle.lower_cert.specs.AnyRanks.{RanksFit}
 use Rattle.region_tree.specs.Laws.{MeetingRectanglesShare}
 use Rattle.region_tree.specs.Recent.{RecentData, DecidedData, Meet, sides_at, IsNoted, Notes, NotesAccepted, NotesRejected, IsInferred, forgotten}
 use Rattle.region_tree.specs.Right.{NoneRejects}
-use Rattle.region_tree.specs.Sides.{AreApart, AreKnown, HoldsWhereMet, IsSoundFor, IsTold}
+use Rattle.region_tree.specs.Sides.{AreApart, AreKnown, Certificates, HoldsWhereMet, IsSoundFor, IsTold}
 use Rattle.region_tree.specs.declared.decided.Outlook.{Outlook}
 use Rattle.region_tree.specs.declared.pools.Pools.{Pools}
 use Rattle.region_tree.specs.declared.side.Side.{Side}
@@ -67,6 +67,11 @@ shared_valuation d (s ∷ ss) [] positive are others meet = absurd meet
 pub meeting_rectangles_share : MeetingRectanglesShare
 meeting_rectangles_share k spans others is inside there meet = shared_valuation k.d spans others is.asked.grid.positive inside.rectangle there.rectangle meet
 
+-- a rectangle shares valuations with itself
+pub meets_itself : (ss : Spans) → AreSpans ss → Meet ss ss
+meets_itself [] are = tt
+meets_itself (s ∷ ss) are = (omega (arith, linear, are.0.rising), omega (arith, linear, are.0.rising), meets_itself ss are.1)
+
 -- ---- what rectangles tell of those that they share a valuation with
 
 module _ (one_kind : NotBothKindsAtAValuation) (share : MeetingRectanglesShare) (k : CaseData) (is : IsCase k) (bound : Bound) (spans others : Spans) (inside : IsInside k.root spans) (there : IsInside k.root others) (meet : Meet spans others) where
@@ -81,8 +86,8 @@ module _ (one_kind : NotBothKindsAtAValuation) (share : MeetingRectanglesShare) 
       one_kind k others spans bound x r v.0 is there inside v.1.1 v.1.0 accepting rejecting
 
 -- what is noted says what is to be looked for
-pub inferred_is_sound : (none_above none_below : CaseData → Spans → Type 0) (k : CaseData) (d : DecidedData) (spans : Spans) (o : Outlook) → AreKnown none_above none_below k d → IsInside k.root spans → IsInferred d spans o → IsSoundFor none_above none_below k spans o
-inferred_is_sound none_above none_below k d spans o known inside inferred = record {
+pub inferred_is_sound : (s : Certificates) (k : CaseData) (d : DecidedData) (spans : Spans) (o : Outlook) → AreKnown s k d → IsInside k.root spans → IsInferred d spans o → IsSoundFor s k spans o
+inferred_is_sound s k d spans o known inside inferred = record {
   accepts = λ no. let meets = inferred.accepts.0 no in known.rejected meets.0 meets.1.0 spans inside meets.1.1;
   rejects = λ no. let meets = inferred.rejects.0 no in known.accepted meets.0 meets.1.0 spans inside meets.1.1;
 }
@@ -101,26 +106,25 @@ noted_too P sides old new noted here all i lt =
     (λ same. subst P (sym (ap (λ n. sides_at new n) same ∙ noted.1.noted)) here)
     (λ other. let at = noted.1.others i lt other in subst P (sym at.1) (all i at.0))
 
-module _ (none_above none_below : CaseData → Spans → Type 0) (k : CaseData) (sides : List ℤ) (old new : DecidedData) (known : AreKnown none_above none_below k old) where
-  pub accepted_too : HoldsWhereMet none_below k sides → NotesAccepted sides old new → AreKnown none_above none_below k new
+module _ (s : Certificates) (k : CaseData) (sides : List ℤ) (old new : DecidedData) (known : AreKnown s k old) where
+  pub accepted_too : HoldsWhereMet s.none_below k sides → NotesAccepted sides old new → AreKnown s k new
   accepted_too here notes = record {
-    accepted = noted_too (HoldsWhereMet none_below k) sides old.accepted new.accepted notes.0 here known.accepted;
+    accepted = noted_too (HoldsWhereMet s.none_below k) sides old.accepted new.accepted notes.0 here known.accepted;
     rejected = rw notes.1 known.rejected;
   }
 
-  pub rejected_too : HoldsWhereMet none_above k sides → NotesRejected sides old new → AreKnown none_above none_below k new
+  pub rejected_too : HoldsWhereMet s.none_above k sides → NotesRejected sides old new → AreKnown s k new
   rejected_too here notes = record {
     accepted = rw notes.1 known.accepted;
-    rejected = noted_too (HoldsWhereMet none_above k) sides old.rejected new.rejected notes.0 here known.rejected;
+    rejected = noted_too (HoldsWhereMet s.none_above k) sides old.rejected new.rejected notes.0 here known.rejected;
   }
 
   -- what was told of a rectangle is noted
-  pub known_too : (above : CaseData → Spans → Pools → Type 0) (below : CaseData → Spans → Pools → ℕ → ℕ → Type 0) → AreApart above below none_above none_below k → IsInside k.root (spans_of sides)
-      → (p : Pools) (found : Option Side) → IsTold above below none_above none_below k (spans_of sides) p found → Notes sides found old new → AreKnown none_above none_below k new
-  known_too above below apart inside p (Some Above) told notes = accepted_too (λ others there meet. apart.above (spans_of sides) others p inside there meet told) notes
-  known_too above below apart inside p (Some (Below rate)) told notes = rejected_too (λ others there meet. apart.below (spans_of sides) others p rate.e rate.k inside there meet told) notes
-  known_too above below apart inside p None told notes = rw notes known
+  pub known_too : AreApart s k → IsInside k.root (spans_of sides) → (p : Pools) (found : Option Side) → IsTold s k (spans_of sides) p found → Notes sides found old new → AreKnown s k new
+  known_too apart inside p (Some Above) told notes = accepted_too (λ others there meet. apart.above (spans_of sides) others p inside there meet told) notes
+  known_too apart inside p (Some (Below rate)) told notes = rejected_too (λ others there meet. apart.below (spans_of sides) others p rate.e rate.k inside there meet told) notes
+  known_too apart inside p None told notes = rw notes known
 
 -- where none is noted, nothing is said
-pub none_known : (none_above none_below : CaseData → Spans → Type 0) (k : CaseData) (d : DecidedData) → AreKnown none_above none_below k (forgotten d)
-none_known none_above none_below k d = record { accepted = λ i lt. absurd (omega (arith, lt)); rejected = λ i lt. absurd (omega (arith, lt)) }
+pub none_known : (s : Certificates) (k : CaseData) (d : DecidedData) → AreKnown s k (forgotten d)
+none_known s k d = record { accepted = λ i lt. absurd (omega (arith, lt)); rejected = λ i lt. absurd (omega (arith, lt)) }

@@ -1,34 +1,30 @@
 -- Where a range of precisions decides a rectangle: at one precision, with one kind of certificate.
-use Rattle.std.proofs.Common.{◌≡◌, ℕ, ◌+◌, ◌-◌, ◌<◌, ◌≤◌, true≢false, List, ℤ, refl, sym, ◌∙◌, subst, arith, le_trans}
+use Rattle.std.proofs.Common.{◌≡◌, ℕ, ◌+◌, ◌-◌, ◌<◌, ◌≤◌, List, ℤ, Option, Some, None, MatchOption, refl, subst, arith, le_trans}
 use Rattle.lift_grid.specs.Rectangle.{Spans}
 use Rattle.lift_grid.specs.Tree.{RejectData}
 use Rattle.lift_cert.specs.declared.bound.Bound.{Bound}
-use Rattle.lift_cert.specs.Certificate.{IsAccepting, IsRejecting, NoneAccepts}
+use Rattle.lift_cert.specs.Certificate.{IsAccepting, IsRejecting}
+use Rattle.lift_cert.specs.Laws.{NotBothKinds}
+use Rattle.lift_model.specs.Valid.{most_states}
 use Rattle.lift_range.specs.Doubled.{doubled, doubled_data}
-use Rattle.lift_range.specs.Range.{Between}
-use Rattle.lift_range.specs.Laws.{NoneAcceptsBelow, NoneRejectsBelow, NotBothKindsAtPrecisions, AcceptingDoubles, RejectingDoubles}
-use Rattle.lower_cert.specs.AnyRanks.{RanksFit}
+use Rattle.lift_range.specs.Laws.{NoneAcceptsBelow, NoneRejectsBelow, AcceptingDoubles, RejectingDoubles}
+use Rattle.lower_cert.specs.AnyRanks.{HeightFits, RanksFit}
 use Rattle.corner_lift.specs.Case.{CaseData, IsCase, IsInside, at}
 use Rattle.corner_lift.specs.Certificate.{IsLeastUpper}
 use Rattle.corner_lift.specs.Laws.{LowerPrecisionIsCase}
 use Rattle.corner_lift.specs.Stages.{IsGreatestLower}
-use Rattle.region_tree.specs.Decided.{IsDecidedBy, IsSound, reject_of}
+use Rattle.region_tree.specs.Decided.{IsDecided, IsGreatestBeyond, lane, reject_in, sought_for, verdict_of}
 use Rattle.region_tree.specs.Laws.{LeastUppersAreOne, GreatestLowersAreOne}
-use Rattle.region_tree.specs.Recent.{AgreesWith}
-use Rattle.region_tree.specs.Right.{NoneRejects, IsOpenAt, IsOpen, IsFirst, IsAccepted, IsRejected}
-use Rattle.region_tree.specs.declared.decided.Outlook.{Outlook}
-use Rattle.region_tree.specs.declared.verdict.Verdict.{Verdict}
-use Rattle.region_tree.specs.declared.verdict.Verdict.TheVariants.{Accept, Reject, Unknown}
+use Rattle.region_tree.specs.Right.{Decides, IsOpenAt, IsOpen, IsFirst, IsAccepted, IsRejected}
+use Rattle.region_tree.specs.Sides.{AgreeAtPrecisions, IsDecidedFrom, IsDecidedOver, IsFound}
+use Rattle.region_tree.specs.Walking.{leaf_in}
+use Rattle.region_tree.specs.declared.pools.Pools.{Pools}
+use Rattle.region_tree.specs.declared.room.Room.{Room}
+use Rattle.region_tree.specs.declared.side.Found.{Found}
+use Rattle.region_tree.specs.declared.side.Side.{Side}
+use Rattle.region_tree.specs.declared.side.Side.TheVariants.{Above, Below}
 use Rattle.region_tree.proofs.AnyHeight.{none_at_any_height, none_with_ranks}
 use Rattle.region_tree.proofs.Searches.{trichotomy}
-
-module _ (k : CaseData) (ss : Spans) (bound : Bound) where
-  -- the range of one precision
-  pub first_alone : IsFirst k k.w ss bound k.w
-  first_alone = record { between = (omega arith, omega arith); before = λ t le lt. absurd (omega (arith, le, lt)) }
-
-  pub open_alone : IsOpenAt k ss bound k.w → IsOpen k k.w ss bound
-  open_alone h u between = let e : k.w ≡ u = omega (arith, between.0, between.1) in subst (λ n. IsOpenAt k ss bound n) e h
 
 -- ---- at greater precisions
 
@@ -41,6 +37,12 @@ accepting_at_last doubles k ss bound u le x h = (doubled (k.w - u) x, subst (λ 
 
 pub rejecting_at_last : RejectingDoubles → (k : CaseData) (ss : Spans) (bound : Bound) (u : ℕ) → u ≤ k.w → (r : RejectData) → IsRejecting (at k u) ss bound r → (q : RejectData) × IsRejecting k ss bound q
 rejecting_at_last doubles k ss bound u le r h = (doubled_data (k.w - u) r, subst (λ n. IsRejecting (at k n) ss bound (doubled_data (k.w - u) r)) (so_much_more u k.w le) (doubles k ss bound u (k.w - u) r h))
+
+-- the k of a rejecting leaf is at most the number of states that a model can have
+pub height_fits : LowerPrecisionIsCase → HeightFits → (k : CaseData) (v : ℕ) (ss : Spans) (bound : Bound) → IsCase k → 1 ≤ v → (u : ℕ) (r : RejectData) → IsRejected k v ss bound u r → r.k ≤ most_states
+height_fits lower fits k v ss bound is positive u r h =
+    let is_at = lower k u is (le_trans positive h.first.between.0) h.first.between.1 in
+    le_trans (fits (at k u) ss r is_at h.greatest) is.asked.model.count.1
 
 -- ---- one precision, one kind
 
@@ -82,88 +84,55 @@ module _ (k : CaseData) (v : ℕ) (ss : Spans) (bound : Bound) where
       let is_at = lower k t is (le_trans positive g.first.between.0) g.first.between.1 in
       (e, one (at k t) ss r q is_at inside (subst (λ n. IsGreatestLower (at k n) ss r) e h.greatest) g.greatest)
 
--- ---- what one precision says of lower ones
-
-module _ (lower : LowerPrecisionIsCase) (fit : RanksFit) (k : CaseData) (is : IsCase k) (ss : Spans) (bound : Bound) where
-  -- where no certificate with bounded ranks rejects at u, none does
-  none_rejects_at : (u : ℕ) → Between 1 k.w u → ((r : RejectData) → IsRejecting (at k u) ss bound r → ⊥) → NoneRejects (at k u) ss bound
-  none_rejects_at u between none = none_at_any_height fit (at k u) ss bound (lower k u is between.0 between.1) none
-
-  pub open_below : NoneAcceptsBelow → NoneRejectsBelow → (t u : ℕ) → 1 ≤ t → t ≤ u → u ≤ k.w → IsOpenAt k ss bound u → IsOpenAt k ss bound t
-  open_below accepts rejects t u positive le most h = record {
-    accepts = accepts k ss bound t u le h.accepts;
-    rejects = none_rejects_at t (positive, le_trans le most) (rejects k ss bound t u le (λ r. none_with_ranks (at k u) ss bound r h.rejects));
-  }
-
--- ---- the search for the least precision
-
--- what is found at a precision is its certificate there, or nothing
-abbrev pub IsHeldAt : CaseData → Spans → Bound → ℕ → List ℤ → List ℕ → List ℕ → Verdict → Type 0
-IsHeldAt k ss bound u x picks ranks (Accept t) = IsDecidedBy (at k u) u ss bound x picks ranks (Accept t)
-IsHeldAt k ss bound u x picks ranks (Reject t e h) = IsDecidedBy (at k u) u ss bound x picks ranks (Reject t e h)
-IsHeldAt k ss bound u x picks ranks Unknown = Unit {0}
+-- ---- what is sought for a bound
 
 -- none of the precisions from v on and below low decides
 abbrev pub AreOpenBelow : CaseData → ℕ → Spans → Bound → ℕ → Type 0
 AreOpenBelow k v ss bound low = (t : ℕ) → v ≤ t → t < low → IsOpenAt k ss bound t
 
--- the outlook holds at each precision up to the case's
-abbrev pub IsSoundBelow : CaseData → Spans → Bound → Outlook → Type 0
-IsSoundBelow k ss bound o = (u : ℕ) → Between 1 k.w u → IsSound (at k u) bound ss o
-
--- a precision at which it is decided is one that isn't open
-pub decided_not_open : (k : CaseData) (ss : Spans) (bound : Bound) (u : ℕ) (x : List ℤ) (picks ranks : List ℕ) (verdict : Verdict) → IsDecidedBy (at k u) u ss bound x picks ranks verdict → (verdict ≡ Unknown → ⊥) → IsOpenAt k ss bound u → ⊥
-decided_not_open k ss bound u x picks ranks (Accept t) h some none =
-    let e : t ≡ u = omega (arith, h.first.between.0, h.first.between.1) in none.accepts x (subst (λ n. IsAccepting (at k n) ss bound x) e h.accepting)
-decided_not_open k ss bound u x picks ranks (Reject t e height) h some none =
-    let same : t ≡ u = omega (arith, h.0.first.between.0, h.0.first.between.1) in none_with_ranks (at k u) ss bound _ none.rejects (subst (λ n. IsRejecting (at k n) ss bound (reject_of x picks ranks e height)) same h.0.rejecting)
-decided_not_open k ss bound u x picks ranks Unknown h some none = absurd (some refl)
-
-pub is_held : (k : CaseData) (ss : Spans) (bound : Bound) (u : ℕ) (x : List ℤ) (picks ranks : List ℕ) (verdict : Verdict) → IsDecidedBy (at k u) u ss bound x picks ranks verdict → IsHeldAt k ss bound u x picks ranks verdict
-is_held k ss bound u x picks ranks (Accept t) h = h
-is_held k ss bound u x picks ranks (Reject t e height) h = h
-is_held k ss bound u x picks ranks Unknown h = tt
-
--- where nothing is found at u, u doesn't decide
-pub open_here : (k : CaseData) (ss : Spans) (bound : Bound) (u : ℕ) (x : List ℤ) (picks ranks : List ℕ) (verdict : Verdict) → IsDecidedBy (at k u) u ss bound x picks ranks verdict → verdict ≡ Unknown → IsOpenAt k ss bound u
-open_here k ss bound u x picks ranks verdict h none =
-    let opens : IsOpen (at k u) u ss bound = rw none at h in
-    let here = opens u (omega arith, omega arith) in
-    record { accepts = here.accepts; rejects = here.rejects }
-
--- what was found at w says what is looked for below
-pub sound_below : LowerPrecisionIsCase → RanksFit → NoneAcceptsBelow → NotBothKindsAtPrecisions → (k : CaseData) (ss : Spans) (bound : Bound) → IsCase k → IsInside k.root ss → (x : List ℤ) (picks ranks : List ℕ) (verdict : Verdict) (o : Outlook) → IsDecidedBy k k.w ss bound x picks ranks verdict → (verdict ≡ Unknown → ⊥) → AgreesWith verdict o → IsSoundBelow k ss bound o
-sound_below lower fit accepts agree k ss bound is inside x picks ranks (Accept t) o h some agrees u between = record {
-  accepts = λ no. absurd (true≢false (sym agrees ∙ no));
-  rejects = λ _. none_rejects_at lower fit k is ss bound u between (λ r rejecting. agree k ss bound t u x r is inside h.first.between.1 between.1 h.accepting rejecting);
+-- what decides at a precision isn't missing there, and what is missing at a precision is at each lower one
+pub precisions_agree : LowerPrecisionIsCase → RanksFit → NoneAcceptsBelow → NoneRejectsBelow → (k : CaseData) (bound : Bound) → IsCase k → AgreeAtPrecisions (sought_for bound) k
+precisions_agree lower fit accepts rejects k bound is = record {
+  above = λ ss u p h none. none _ h.accepting;
+  below = λ ss u p e height h none. none_with_ranks (at k u) ss bound _ none h.rejecting;
+  none_above = λ ss u v positive le most. accepts k ss bound u v le;
+  none_below = λ ss u v positive le most none. none_at_any_height fit (at k u) ss bound (lower k u is positive (le_trans le most)) (rejects k ss bound u v le (λ r. none_with_ranks (at k v) ss bound r none));
 }
-sound_below lower fit accepts agree k ss bound is inside x picks ranks (Reject t e height) o h some agrees u between = record {
-  accepts = λ _. accepts k ss bound u k.w between.1 (let same : t ≡ k.w = omega (arith, h.0.first.between.0, h.0.first.between.1) in subst (λ n. NoneAccepts (at k n) ss bound) same h.0.none);
-  rejects = λ no. absurd (true≢false (sym agrees ∙ no));
-}
-sound_below lower fit accepts agree k ss bound is inside x picks ranks Unknown o h some agrees u between = absurd (some refl)
 
--- the range is decided where none below decides and this one does
-pub decided_over : (k : CaseData) (v : ℕ) (ss : Spans) (bound : Bound) (u : ℕ) (x : List ℤ) (picks ranks : List ℕ) (verdict : Verdict) → v ≤ u → u ≤ k.w → AreOpenBelow k v ss bound u → (verdict ≡ Unknown → ⊥) → IsHeldAt k ss bound u x picks ranks verdict → IsDecidedBy k v ss bound x picks ranks verdict
-decided_over k v ss bound u x picks ranks (Accept t) low high below some h =
-    let e : t ≡ u = omega (arith, h.first.between.0, h.first.between.1) in
-    record {
-      first = record { between = (omega (arith, low, e), omega (arith, high, e)); before = λ n le lt. below n le (omega (arith, lt, e)) };
-      accepting = h.accepting;
-      least = h.least;
-    }
-decided_over k v ss bound u x picks ranks (Reject t e height) low high below some h =
-    let same : t ≡ u = omega (arith, h.0.first.between.0, h.0.first.between.1) in (
-      record {
-        first = record { between = (omega (arith, low, same), omega (arith, high, same)); before = λ n le lt. below n le (omega (arith, lt, same)) };
-        none = h.0.none;
-        rejecting = h.0.rejecting;
-        greatest = h.0.greatest;
-      },
-      h.1,
-    )
-decided_over k v ss bound u x picks ranks Unknown low high below some h = absurd (some refl)
+module _ (k : CaseData) (v : ℕ) (ss : Spans) (bound : Bound) (lower : LowerPrecisionIsCase) (one : NotBothKinds) (is : IsCase k) (inside : IsInside k.root ss) (positive : 1 ≤ v) where
+  pub first_of : (p : Pools) (found : Found) → IsDecidedOver (sought_for bound) k v ss p found → IsFirst k v ss bound found.u
+  first_of p found h = record { between = h.between; before = λ t le lt. record { accepts = (h.before t le lt).0; rejects = (h.before t le lt).1 } }
 
--- where nothing is found at the greatest precision, the range is open
-pub open_over : (k : CaseData) (v : ℕ) (ss : Spans) (bound : Bound) (x : List ℤ) (picks ranks : List ℕ) (verdict : Verdict) → verdict ≡ Unknown → IsOpen k v ss bound → IsDecidedBy k v ss bound x picks ranks verdict
-open_over k v ss bound x picks ranks verdict e h = rw e h
+  -- no accepting certificate exists where a rejecting one does
+  pub rejected_of : (u : ℕ) (r : RejectData) → IsFirst k v ss bound u → IsGreatestBeyond (at k u) ss bound r → IsRejected k v ss bound u r
+  rejected_of u r first h = record {
+    first = first;
+    none = λ x accepting. one (at k u) ss bound x r (lower k u is (le_trans positive first.between.0) first.between.1) inside accepting h.rejecting;
+    rejecting = h.rejecting;
+    greatest = h.greatest;
+  }
+
+  -- what was found is the right leaf
+  pub leaf_decides : (p : Pools) (found : Found) → IsDecidedOver (sought_for bound) k v ss p found → Decides k v bound ss (leaf_in p found)
+  leaf_decides p found h = by_side found.side refl h.decided
+    where
+      first : IsFirst k v ss bound found.u
+      first = first_of p found h
+
+      by_side : (side : Side) → found.side ≡ side → IsDecidedFrom (sought_for bound) (at k found.u) ss p side → Decides k v bound ss (leaf_in p found)
+      by_side Above same d = rw same (record { first = first; accepting = d.accepting; least = d.least })
+      by_side (Below rate) same d = rw same (rejected_of found.u _ first d)
+
+  pub found_decides : (p : Pools) (found : Option Found) → IsFound (sought_for bound) k v ss p found → MatchOption found (IsOpen k v ss bound) (λ f. Decides k v bound ss (leaf_in p f))
+  found_decides p (Some found) h = leaf_decides p found h
+  found_decides p None h = λ u between. record { accepts = (h u between).0; rejects = (h u between).1 }
+
+-- a verdict is right where its leaf is
+pub verdict_decides : LowerPrecisionIsCase → HeightFits → (k : CaseData) (v : ℕ) (ss : Spans) (bound : Bound) → IsCase k → 1 ≤ v → (room : Room) (found : Option Found)
+    → MatchOption found (IsOpen k v ss bound) (λ f. Decides k v bound ss (leaf_in room.lanes.pools f)) → IsDecided k v ss bound room (verdict_of found)
+verdict_decides lower fits k v ss bound is positive room (Some found) h = by_side found.side refl
+  where
+    by_side : (side : Side) → found.side ≡ side → IsDecided k v ss bound room (verdict_of (Some found))
+    by_side Above same = rw same (let d : IsAccepted k v ss bound found.u (lane room.lanes.pools.values) = rw same at h in d)
+    by_side (Below rate) same = rw same (let d : IsRejected k v ss bound found.u (reject_in room.lanes.pools rate.e rate.k) = rw same at h in (d, height_fits lower fits k v ss bound is positive found.u _ d))
+verdict_decides lower fits k v ss bound is positive room None h = h

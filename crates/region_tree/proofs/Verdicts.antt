@@ -1,5 +1,5 @@
 -- What decides a rectangle: the greatest number within a bound, and what a vector's number of the initial state shows.
-use Rattle.std.proofs.Common.{◌≡◌, ℕ, ◌+◌, ◌*◌, ◌/◌, ◌%◌, ◌^◌, ◌<◌, ◌≤◌, List, ℤ, pos, ◌+ℤ◌, ◌≤ℤ◌, ◌<ℤ◌, SFits, w64, to_z, arith, mul-le-mul, mod-eq_of_lt, div-add-mod', le_of_mul-le-mul_right, pow_mono, le_trans, Option, Some, None, IfSome}
+use Rattle.std.proofs.Common.{◌≡◌, ℕ, ◌+◌, ◌*◌, ◌/◌, ◌%◌, ◌^◌, ◌<◌, ◌≤◌, List, ℤ, pos, ◌+ℤ◌, ◌≤ℤ◌, ◌<ℤ◌, SFits, w64, to_z, arith, mul-le-mul, mod-eq_of_lt, div-add-mod', le_of_mul-le-mul_right, pow_mono, Option, Some, None, IfSome}
 use Rattle.std.proofs.lemmas.Int.{to_z_pos}
 use Rattle.std.proofs.lemmas.Nat.{mod_below}
 use Rattle.lift_poly.proofs.Ring.{linear, mul-comm, mul-le}
@@ -7,19 +7,15 @@ use Rattle.lift_grid.specs.Rectangle.{Spans}
 use Rattle.lift_grid.specs.Tree.{RejectData}
 use Rattle.lift_cert.specs.declared.bound.Bound.{Bound}
 use Rattle.lift_cert.specs.Certificate.{IsWithin, IsBeyond, NoneAccepts}
-use Rattle.corner_lift.specs.Case.{CaseData, IsCase, IsInside, number}
+use Rattle.corner_lift.specs.Case.{CaseData, IsCase, number}
 use Rattle.corner_lift.specs.Certificate.{IsUpper, IsLeastUpper}
 use Rattle.lower_cert.specs.declared.greatest.Rate.{Rate}
 use Rattle.lower_cert.specs.AnyRanks.{RanksFit}
 use Rattle.lower_cert.specs.Limit.{IsGreatestAbove, NoneIsAbove}
-use Rattle.lift_cert.specs.Laws.{NotBothKinds}
-use Rattle.region_tree.specs.Decided.{IsDecidedIn, IsGreatestBeyond, IsToldFor, reject_of, verdict_at}
+use Rattle.region_tree.specs.Decided.{IsGreatestBeyond, IsLeastAccepting, reject_in}
 use Rattle.region_tree.specs.declared.pools.Pools.{Pools}
-use Rattle.region_tree.specs.declared.side.Side.{Side}
-use Rattle.region_tree.specs.declared.side.Side.TheVariants.{Above, Below}
-use Rattle.region_tree.specs.Right.{IsAccepted, NoneRejects}
+use Rattle.region_tree.specs.Right.{NoneRejects}
 use Rattle.region_tree.proofs.AnyHeight.{none_at_any_height}
-use Rattle.region_tree.proofs.Ranges.{first_alone, open_alone}
 
 -- ---- the greatest number within a bound
 
@@ -65,9 +61,8 @@ module _ (bound : Bound) (w : ℕ) (limit n : ℤ) where
 -- ---- verdicts
 
 module _ (k : CaseData) (ss : Spans) (bound : Bound) where
-  pub is_accepted : (limit : ℤ) (x : List ℤ) → IsWithin bound k.w limit → IsLeastUpper k ss x → number x k.model.init ≤ℤ limit → IsAccepted k k.w ss bound k.w x
+  pub is_accepted : (limit : ℤ) (x : List ℤ) → IsWithin bound k.w limit → IsLeastUpper k ss x → number x k.model.init ≤ℤ limit → IsLeastAccepting k ss bound x
   is_accepted limit x within least first = record {
-    first = first_alone k ss bound;
     accepting = record { upper = least.upper; limit = within_below bound k.w limit (number x k.model.init) within first };
     least = least;
   }
@@ -81,23 +76,15 @@ module _ (k : CaseData) (ss : Spans) (bound : Bound) where
       (λ q rejecting. let scaled = mul-le (pos bound.den) (number q.numbers k.model.init) limit (omega (arith, linear)) (none q rejecting.holds) in
       omega (arith, linear, scaled, within, rejecting.limit, mul-comm (pos bound.den) (number q.numbers k.model.init), mul-comm (pos bound.den) limit))
 
-  beyond_at : (limit : ℤ) → IsBeyond bound k.w (limit +ℤ pos 1) → (r : RejectData) → IsCase k → IsGreatestAbove k ss limit r → IsGreatestBeyond k ss bound r
-  beyond_at limit beyond r is above =
-      let scaled = mul-le (pos bound.den) (limit +ℤ pos 1) (number r.numbers k.model.init) (omega (arith, linear)) (omega (arith, linear, above.above)) in
+  beyond_at : (limit : ℤ) → IsBeyond bound k.w (limit +ℤ pos 1) → (r : RejectData) → IsGreatestAbove k ss limit r → IsGreatestBeyond k ss bound r
+  beyond_at limit beyond r is =
+      let scaled = mul-le (pos bound.den) (limit +ℤ pos 1) (number r.numbers k.model.init) (omega (arith, linear)) (omega (arith, linear, is.above)) in
       record {
-        rejecting = record { holds = above.greatest.holds; limit = omega (arith, linear, scaled, beyond, mul-comm (pos bound.den) (limit +ℤ pos 1), mul-comm (pos bound.den) (number r.numbers k.model.init)) };
-        greatest = above.greatest;
-        height = le_trans above.height is.asked.model.count.1;
+        rejecting = record { holds = is.greatest.holds; limit = omega (arith, linear, scaled, beyond, mul-comm (pos bound.den) (limit +ℤ pos 1), mul-comm (pos bound.den) (number r.numbers k.model.init)) };
+        greatest = is.greatest;
       }
 
-  pub greatest_beyond : (limit : ℤ) → IsCase k → IsBeyond bound k.w (limit +ℤ pos 1) → (x : List ℤ) (picks ranks : List ℕ) (rate : Option Rate)
-      → IfSome rate (λ r. IsGreatestAbove k ss limit (reject_of x picks ranks r.e r.k)) → IfSome rate (λ r. IsGreatestBeyond k ss bound (reject_of x picks ranks r.e r.k))
-  greatest_beyond limit is beyond x picks ranks (Some r) h = beyond_at limit beyond (reject_of x picks ranks r.e r.k) is h
-  greatest_beyond limit is beyond x picks ranks None h = h
-
--- what is told of a rectangle at the case's precision, as a verdict
-pub told_is_decided : NotBothKinds → (k : CaseData) (spans : Spans) (bound : Bound) → IsCase k → IsInside k.root spans → (p : Pools) (found : Option Side) → IsToldFor k bound spans p found → IsDecidedIn k k.w spans bound p (verdict_at k.w found)
-told_is_decided one k spans bound is inside p (Some Above) told = told
-told_is_decided one k spans bound is inside p (Some (Below rate)) told =
-    (record { first = first_alone k spans bound; none = λ x accepting. one k spans bound x _ is inside accepting told.rejecting; rejecting = told.rejecting; greatest = told.greatest }, told.height)
-told_is_decided one k spans bound is inside p None told = open_alone k spans bound (record { accepts = told.0; rejects = told.1 })
+  pub greatest_beyond : (limit : ℤ) → IsBeyond bound k.w (limit +ℤ pos 1) → (p : Pools) (rate : Option Rate)
+      → IfSome rate (λ r. IsGreatestAbove k ss limit (reject_in p r.e r.k)) → IfSome rate (λ r. IsGreatestBeyond k ss bound (reject_in p r.e r.k))
+  greatest_beyond limit beyond p (Some r) h = beyond_at limit beyond (reject_in p r.e r.k) h
+  greatest_beyond limit beyond p None h = h

@@ -8,8 +8,6 @@ use Rattle.lift_model.specs.Valid.{most_parameters}
 use Rattle.region_tree.specs.declared.decided.Outlook.{Outlook}
 use Rattle.region_tree.specs.declared.side.Side.{Side}
 use Rattle.region_tree.specs.declared.side.Side.TheVariants.{Above, Below}
-use Rattle.region_tree.specs.declared.verdict.Verdict.{Verdict}
-use Rattle.region_tree.specs.declared.verdict.Verdict.TheVariants.{Accept, Reject, Unknown}
 
 -- how many rectangles of a kind are noted at most
 abbrev pub most_noted : ℕ
@@ -90,8 +88,7 @@ pub record IsInferred (d : DecidedData) (spans : Spans) (o : Outlook) : Type 0 w
   pub accepts : IsFalse o.may_accept ↔ MeetsOne spans d.rejected
   pub rejects : IsFalse o.may_reject ↔ MeetsOne spans d.accepted
 
--- no certificate of the other kind is looked for
-abbrev pub AgreesWith : Verdict → Outlook → Type 0
-AgreesWith (Accept u) o = o.may_accept ≡ true
-AgreesWith (Reject u e k) o = o.may_reject ≡ true
-AgreesWith Unknown o = (o.may_accept ≡ true) × (o.may_reject ≡ true)
+-- certificates from that side are looked for
+abbrev pub LooksFrom : Side → Outlook → Type 0
+LooksFrom Above o = o.may_accept ≡ true
+LooksFrom (Below rate) o = o.may_reject ≡ true

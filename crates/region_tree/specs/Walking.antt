@@ -7,13 +7,14 @@ use Rattle.corner_lift.specs.Case.{CaseData, at}
 use Rattle.lift_cert.specs.Certificate.{IsAccepting, IsRejecting}
 use Rattle.lift_cert.specs.declared.bound.Bound.{Bound}
 use Rattle.lift_range.specs.Range.{Between}
-use Rattle.region_tree.specs.Decided.{AreKnownFor, lane, reject_in}
+use Rattle.region_tree.specs.Decided.{lane, reject_in, sought_for}
 use Rattle.region_tree.specs.Nodes.{Node}
 use Rattle.region_tree.specs.Right.{Decision}
 use Rattle.region_tree.specs.Rooms.{LanesData, HasLanes, KeepsShape}
-use Rattle.region_tree.specs.declared.leaf.Found.{Found}
-use Rattle.region_tree.specs.declared.leaf.Found.TheVariants.{Accepted, Rejected}
+use Rattle.region_tree.specs.Sides.{AreKnown}
 use Rattle.region_tree.specs.declared.pools.Pools.{Pools}
+use Rattle.region_tree.specs.declared.side.Found.{Found}
+use Rattle.region_tree.specs.declared.side.Side.TheVariants.{Above, Below}
 
 -- The lanes are those that were made for a case, and what is noted tells of other rectangles; the least precision is from 1 to the case's. What else they hold is free.
 pub record AreReady (k : CaseData) (l : LinksData) (bound : Bound) (from : ℕ) (made lanes : LanesData) : Type 0 where
@@ -21,12 +22,11 @@ pub record AreReady (k : CaseData) (l : LinksData) (bound : Bound) (from : ℕ) 
   pub range : Between 1 k.w from
   pub has : HasLanes k.model l lanes
   pub shape : KeepsShape made lanes
-  pub known : AreKnownFor k bound lanes.decided
+  pub known : AreKnown (sought_for bound) k lanes.decided
 
 -- the leaf that was found, by the certificate that stands in the lanes
 abbrev pub leaf_in : Pools → Found → Decision
-leaf_in p (Accepted u) = Decision.accept u (lane p.values)
-leaf_in p (Rejected r) = Decision.reject r.u (reject_in p r.e r.k)
+leaf_in p found = elim found.side [ Above ↦ Decision.accept found.u (lane p.values) | Below rate ↦ Decision.reject found.u (reject_in p rate.e rate.k) ]
 
 -- the node of a leaf
 abbrev pub node_of : Decision → Node

@@ -3,8 +3,7 @@
 ghost use Rattle.std.specs.Prelude.{◌<◌, ◌≤◌};
 ghost use Rattle.corner_lift.specs.Case.{most_precision};
 
-use crate::at_most::greatest_within;
-use lift_cert::Bound;
+use crate::sought::Sought;
 
 /// Of how many precisions below one that decides an error tells.
 const NEAR: u32 = 3;
@@ -44,17 +43,17 @@ impl Errors {
     }
 }
 
-/// By what a precision is chosen: the kind of certificate that a rectangle has at the case's precision `w`, and the
+/// By what a precision is chosen: the side from which a certificate decides a rectangle at the case's precision `w`, and the
 /// initial state's number in it.
-#[derive(Clone, Copy)]
-pub(crate) struct Aim {
-    pub(crate) bound: Bound,
+#[derive(Drop)]
+pub(crate) struct Aim<'a, S> {
+    pub(crate) sought: &'a S,
     pub(crate) w: u32,
     pub(crate) accepts: bool,
     pub(crate) number: i64,
 }
 
-impl Aim {
+impl<S: Sought> Aim<'_, S> {
     /// The number at the precision `u`, rounded down.
     fn number_at(&self, u: u32) -> i64 {
         let halvings = self.w.saturating_sub(u);
@@ -76,7 +75,7 @@ impl Aim {
         requires { u ≤ most_precision }
     {
         let number = self.number_at(u);
-        let limit = greatest_within(self.bound, u);
+        let limit = self.sought.limit(u);
         if self.accepts {
             number.saturating_add(error) <= limit
         } else {

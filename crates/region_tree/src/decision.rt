@@ -7,21 +7,20 @@ ghost use Rattle.corner_lift.specs.Table.{IsTable};
 ghost use Rattle.lift_range.specs.Range.{Between};
 ghost use Rattle.lift_collapse.specs.Collapse.{IsCollapse};
 ghost use Rattle.lift_collapse.specs.Filled.{IsFilled};
-ghost use Rattle.region_tree.specs.Decided.{CanAsk, CanDecide, IsDecided, IsDecidedIn, IsToldFor, lane};
-ghost use Rattle.region_tree.specs.Rooms.{HasLane, HasLanes, IsSameShape, KeepsShape, collapse_of, last_sides};
+ghost use Rattle.region_tree.specs.Decided.{CanDecide, IsDecided, lane, verdict_of};
+ghost use Rattle.region_tree.specs.Rooms.{HasLane, IsSameShape, KeepsShape, collapse_of, last_sides};
 
-use crate::at_most::{Question, verdict_at};
 use crate::decided::Outlook;
-use crate::room::{Lanes, Room};
+use crate::room::Room;
 use crate::search::Search;
-use crate::side::Side;
-use crate::task::Task;
+use crate::side::{Found, Side};
 use crate::verdict::Verdict;
-use corner_lift::{Case, fill};
+use corner_lift::{Case, fill, lower_precisions_are_cases};
 use lift_cert::{Bound, certificates_are_of_one_kind};
 use lift_collapse::Collapse;
 use lift_model::Links;
 use lift_pool::{Pool, lanes_stand_alone};
+use lower_cert::{Rate, ranks_fit};
 
 /// Makes the table of a rectangle in the pool's one lane. Takes no memory.
 pub(crate) fn make_table(case: &Case, links: &Links, sides: &[i64], weights: &mut Pool<i128>)
@@ -47,52 +46,24 @@ pub(crate) fn fill_collapse(case: &Case, sides: &[i64], collapse: &mut Option<Co
     }
 }
 
-impl Task<'_> {
-    /// The search for what tells whether the bound holds, at the case's precision.
-    pub(crate) fn search(&self) -> Search<'_, Bound>
-        ensures case { result.case.now ≡ self.now.case.now }
-        ensures links { result.links.now ≡ self.now.links.now }
-        ensures bound { result.sought.now ≡ self.now.bound }
-    {
-        Search {
-            case: self.case,
-            links: self.links,
-            sought: &self.bound,
-        }
-    }
-
-    /// Finds the least precision that decides the rectangle that has these sides, as the case's precision does. Its
-    /// table is in the lanes.
-    pub(crate) fn settle(&self, lanes: &mut Lanes, sides: &[i64], found: Option<Side>) -> Verdict
-        requires from { Between 1 self.now.case.now.w self.now.from }
-        requires asked { CanAsk self.now.case.now self.now.links.now (spans_of sides.now) (lane lanes.old.weights) }
-        requires lanes { HasLanes self.now.case.now.model self.now.links.now lanes.old }
-        requires filled { IfSome lanes.old.collapse (IsFilled self.now.case.now (spans_of sides.now)) }
-        requires told { IsToldFor self.now.case.now self.now.bound (spans_of sides.now) lanes.old.pools found }
-        ensures shape { KeepsShape lanes.old lanes.new }
-        ensures noted { lanes.new.decided ≡ lanes.old.decided }
-        ensures weights { lanes.new.weights ≡ lanes.old.weights }
-        ensures decided { IsDecidedIn self.now.case.now self.now.from (spans_of sides.now) self.now.bound
-            lanes.new.pools result }
-    {
-        certificates_are_of_one_kind();
-        let question = Question {
-            task: Task {
-                case: self.case,
-                links: self.links,
-                bound: self.bound,
-                from: self.from,
+/// What was found, as a verdict.
+fn verdict_of(found: Option<Found>) -> Verdict
+    ensures { result ≡ verdict_of found }
+{
+    match found {
+        Some(
+            Found {
+                u,
+                side: Side::Above,
             },
-            sides,
-            weights: lanes.weights.lane(0),
-        };
-        let verdict = verdict_at(self.case.w(), found);
-        question.settle(
-            verdict,
-            &mut lanes.collapse,
-            &mut lanes.pools,
-            &mut lanes.errors,
-        )
+        ) => Verdict::Accept { u },
+        Some(
+            Found {
+                u,
+                side: Side::Below(Rate { e, k }),
+            },
+        ) => Verdict::Reject { u, e, k },
+        None => Verdict::Unknown,
     }
 }
 
@@ -110,16 +81,17 @@ pub fn decide(case: &Case, links: &Links, bound: Bound, from: u32, room: &mut Ro
     ensures table { IsTable case.now links.now (spans_of (last_sides room.old)) (lane room.new.lanes.weights) }
     ensures decided { IsDecided case.now from (spans_of (last_sides room.old)) bound room.new result }
 {
-    let task = Task {
+    certificates_are_of_one_kind();
+    lower_precisions_are_cases();
+    ranks_fit();
+    let _ = case.w();
+    let search = Search {
         case: &*case,
         links: &*links,
-        bound,
+        sought: bound,
         from,
     };
     let last = room.sides.lanes() - 1;
     let sides = room.sides.lane(last);
-    let found = task
-        .search()
-        .decide_by(&mut room.lanes, sides, Outlook::OPEN);
-    task.settle(&mut room.lanes, sides, found)
+    verdict_of(search.decide_by(&mut room.lanes, sides, Outlook::OPEN))
 }

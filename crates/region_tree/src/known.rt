@@ -8,11 +8,11 @@ ghost use Rattle.region_tree.specs.Right.{Decides, Decision, IsOpen, tree_from};
 ghost use Rattle.region_tree.specs.Walking.{AreReady, IsVisitorOf, MayStand, VisitorData, leaf_in, node_of};
 
 use crate::base::{self, Base, Copier};
-use crate::leaf::Found;
 use crate::room::Lanes;
+use crate::search::Search;
 use crate::showing::{Unkept, kept};
-use crate::task::Task;
-use lift_cert::certificates_are_of_one_kind;
+use crate::side::Found;
+use lift_cert::{Bound, certificates_are_of_one_kind};
 use lift_range::certificates_double;
 use lift_walk::{Given, Guide};
 use lower_cert::ranks_fit;
@@ -21,7 +21,7 @@ use std::marker::PhantomData;
 /// Shows a visitor the nodes of a tree that goes on from the one that a base gives.
 #[derive(Drop)]
 pub(crate) struct Going<'a, B, V> {
-    pub(crate) task: Task<'a>,
+    pub(crate) search: Search<'a, Bound>,
     pub(crate) base: PhantomData<B>,
     pub(crate) visitor: PhantomData<V>,
 }
@@ -41,17 +41,17 @@ impl<B: Base, V: Copier> Guide for Going<'_, B, V> {
 
     ghost Leaf = { Decision };
 
-    ghost case = { λ s. s.task.case.now };
+    ghost case = { λ s. s.search.case.now };
 
-    ghost decides = { λ s. Decides s.task.case.now s.task.from s.task.bound };
+    ghost decides = { λ s. Decides s.search.case.now s.search.from s.search.sought };
 
-    ghost is_open = { λ s spans. IsOpen s.task.case.now s.task.from spans s.task.bound };
+    ghost is_open = { λ s spans. IsOpen s.search.case.now s.search.from spans s.search.sought };
 
-    ghost may = { λ s. MayStand s.task.case.now s.task.bound };
+    ghost may = { λ s. MayStand s.search.case.now s.search.sought };
 
     ghost leaf = { λ _ lanes found. leaf_in lanes.pools found };
 
-    ghost is_ready = { λ s. AreReady s.task.case.now s.task.links.now s.task.bound s.task.from };
+    ghost is_ready = { λ s. AreReady s.search.case.now s.search.links.now s.search.sought s.search.from };
 
     ghost Fixed = { VisitorData };
 
@@ -62,7 +62,7 @@ impl<B: Base, V: Copier> Guide for Going<'_, B, V> {
       reference = V.reference v;
     } };
 
-    ghost fits = { λ s v. IsCase s.task.case.now × IsVisitorOf s.task.case.now v };
+    ghost fits = { λ s v. IsCase s.search.case.now × IsVisitorOf s.search.case.now v };
 
     ghost taken = { V.taken };
 
@@ -87,7 +87,7 @@ impl<B: Base, V: Copier> Guide for Going<'_, B, V> {
     ghost is_ahead = { λ _ base v rest. B.is_ahead base rest × ((node : Node) → B.entry base node ≡ v.entry node) };
 
     fn decide(&self, room: &mut Lanes, sides: &[i64]) -> Option<Found> {
-        self.task.find(room, sides)
+        self.search.find(room, sides)
     }
 
     fn next(
@@ -100,7 +100,7 @@ impl<B: Base, V: Copier> Guide for Going<'_, B, V> {
         certificates_double();
         certificates_are_of_one_kind();
         ranks_fit();
-        let _ = self.task.case.w();
+        let _ = self.search.case.w();
         match base.next() {
             base::Given::Split(axis) => Given::Split(axis),
             base::Given::Accept => {
@@ -120,7 +120,7 @@ impl<B: Base, V: Copier> Guide for Going<'_, B, V> {
     }
 
     fn take_leaf(&self, room: &Lanes, verdict: Found, out: &mut V) -> Result<(), Unkept> {
-        self.task.show(room, verdict, out)
+        self.search.show(room, verdict, out)
     }
 
     fn take_unknown(&self, out: &mut V) -> Result<(), Unkept> {

@@ -10,8 +10,8 @@ use crate::base::{Base, Copier};
 use crate::known::Going;
 use crate::laws::certificates_are_one;
 use crate::room::Room;
+use crate::search::Search;
 use crate::showing::seen;
-use crate::task::Task;
 use crate::visitor::Seen;
 use corner_lift::{Case, lower_precisions_are_cases};
 use lift_cert::Bound;
@@ -55,14 +55,14 @@ pub fn refine<B: Base, V: Copier>(
     lower_precisions_are_cases();
     let _ = case.w();
     room.lanes.forget();
-    let task = Task {
+    let search = Search {
         case: &*case,
         links: &*links,
-        bound,
+        sought: bound,
         from,
     };
     let going: Going<B, V> = Going {
-        task,
+        search,
         base: PhantomData,
         visitor: PhantomData,
     };

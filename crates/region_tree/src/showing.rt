@@ -9,19 +9,21 @@ ghost use Rattle.lift_range.specs.Range.{Between};
 ghost use Rattle.lift_walk.specs.Halved.{Halved};
 ghost use Rattle.lift_walk.specs.Shown.{Took};
 ghost use Rattle.region_tree.specs.Nodes.Node.{split, unknown};
-ghost use Rattle.region_tree.specs.Decided.{AreKnownFor};
+ghost use Rattle.region_tree.specs.Decided.{sought_for};
 ghost use Rattle.region_tree.specs.Right.{Decides, Decision, IsOpen};
 ghost use Rattle.region_tree.specs.Rooms.{HasLanes, KeepsShape};
+ghost use Rattle.region_tree.specs.Sides.{AreKnown};
 ghost use Rattle.region_tree.specs.Walking.{AreReady, IsVisitorOf, VisitorData, leaf_in, node_of};
 ghost use Rattle.region_tree.specs.declared.visitor.Seen.TheVariants.{Failed, Kept};
 
-use crate::leaf::{Found, Rejection};
 use crate::room::Lanes;
-use crate::task::Task;
-use crate::verdict::Verdict;
+use crate::search::Search;
+use crate::side::{Found, Side};
 use crate::visitor::{Seen, Visitor};
 use corner_lift::lower_precisions_are_cases;
+use lift_cert::{Bound, certificates_are_of_one_kind};
 use lift_walk::{Given, Guide};
+use lower_cert::{Rate, ranks_fit};
 use std::marker::PhantomData;
 
 /// A visitor failed.
@@ -48,26 +50,24 @@ pub(crate) fn seen(walked: Result<(), Unkept>) -> Seen
     }
 }
 
-impl Task<'_> {
+impl Search<'_, Bound> {
     /// Decides the rectangle of a walk that has these sides.
     pub(crate) fn find(&self, lanes: &mut Lanes, sides: &[i64]) -> Option<Found>
         requires links { AreLinks self.now.case.now.model self.now.links.now }
         requires lanes { HasLanes self.now.case.now.model self.now.links.now lanes.old }
         requires sides { AreSidesInside self.now.case.now.root sides.now }
         requires from { Between 1 self.now.case.now.w self.now.from }
-        requires known { AreKnownFor self.now.case.now self.now.bound lanes.old.decided }
+        requires known { AreKnown (sought_for self.now.sought) self.now.case.now lanes.old.decided }
         ensures shape { KeepsShape lanes.old lanes.new }
-        ensures known { AreKnownFor self.now.case.now self.now.bound lanes.new.decided }
-        ensures decided { MatchOption result (IsOpen self.now.case.now self.now.from (spans_of sides.now) self.now.bound)
-            (λ found. Decides self.now.case.now self.now.from self.now.bound (spans_of sides.now)
+        ensures known { AreKnown (sought_for self.now.sought) self.now.case.now lanes.new.decided }
+        ensures decided { MatchOption result (IsOpen self.now.case.now self.now.from (spans_of sides.now) self.now.sought)
+            (λ found. Decides self.now.case.now self.now.from self.now.sought (spans_of sides.now)
             (leaf_in lanes.new.pools found)) }
     {
-        let found = self.search().decide(lanes, sides);
-        match self.settle(lanes, sides, found) {
-            Verdict::Accept { u } => Some(Found::Accepted(u)),
-            Verdict::Reject { u, e, k } => Some(Found::Rejected(Rejection { u, e, k })),
-            Verdict::Unknown => None,
-        }
+        certificates_are_of_one_kind();
+        lower_precisions_are_cases();
+        let _ = self.case.w();
+        self.decide(lanes, sides)
     }
 
     /// Shows the leaf that was found, with the certificate that stands in the lanes.
@@ -80,7 +80,7 @@ impl Task<'_> {
         requires case { IsCase self.now.case.now }
         requires from { Between 1 self.now.case.now.w self.now.from }
         requires lanes { HasLanes self.now.case.now.model self.now.links.now lanes.now }
-        requires decided { (spans : Spans) × Decides self.now.case.now self.now.from self.now.bound spans
+        requires decided { (spans : Spans) × Decides self.now.case.now self.now.from self.now.sought spans
             (leaf_in lanes.now.pools found) }
         requires states { V.states visitor.old ≡ length self.now.case.now.model.states }
         requires precision { V.precision visitor.old ≡ self.now.case.now.w }
@@ -92,10 +92,12 @@ impl Task<'_> {
         ensures same { V.reference visitor.new ≡ V.reference visitor.old }
     {
         lower_precisions_are_cases();
+        ranks_fit();
         let pools = &lanes.pools;
-        kept(match found {
-            Found::Accepted(u) => visitor.accept(u, pools.values.lane(0)),
-            Found::Rejected(Rejection { u, e, k }) => visitor.reject(
+        let Found { u, side } = found;
+        kept(match side {
+            Side::Above => visitor.accept(u, pools.values.lane(0)),
+            Side::Below(Rate { e, k }) => visitor.reject(
                 u,
                 e,
                 k,
@@ -110,7 +112,7 @@ impl Task<'_> {
 /// Shows a visitor the nodes of the tree of a case. Nothing of it is known beforehand.
 #[derive(Drop)]
 pub(crate) struct Showing<'a, V> {
-    pub(crate) task: Task<'a>,
+    pub(crate) search: Search<'a, Bound>,
     pub(crate) visitor: PhantomData<V>,
 }
 
@@ -129,17 +131,17 @@ impl<V: Visitor> Guide for Showing<'_, V> {
 
     ghost Leaf = { Decision };
 
-    ghost case = { λ s. s.task.case.now };
+    ghost case = { λ s. s.search.case.now };
 
-    ghost decides = { λ s. Decides s.task.case.now s.task.from s.task.bound };
+    ghost decides = { λ s. Decides s.search.case.now s.search.from s.search.sought };
 
-    ghost is_open = { λ s spans. IsOpen s.task.case.now s.task.from spans s.task.bound };
+    ghost is_open = { λ s spans. IsOpen s.search.case.now s.search.from spans s.search.sought };
 
     ghost may = { λ _ _ _. ⊥ };
 
     ghost leaf = { λ _ lanes found. leaf_in lanes.pools found };
 
-    ghost is_ready = { λ s. AreReady s.task.case.now s.task.links.now s.task.bound s.task.from };
+    ghost is_ready = { λ s. AreReady s.search.case.now s.search.links.now s.search.sought s.search.from };
 
     ghost Fixed = { VisitorData };
 
@@ -150,7 +152,7 @@ impl<V: Visitor> Guide for Showing<'_, V> {
       reference = V.reference v;
     } };
 
-    ghost fits = { λ s v. IsCase s.task.case.now × IsVisitorOf s.task.case.now v };
+    ghost fits = { λ s v. IsCase s.search.case.now × IsVisitorOf s.search.case.now v };
 
     ghost taken = { V.taken };
 
@@ -175,7 +177,7 @@ impl<V: Visitor> Guide for Showing<'_, V> {
     ghost is_ahead = { λ _ _ _ trees. AllByRecursion (λ t. t ≡ Halved.unknown) trees };
 
     fn decide(&self, room: &mut Lanes, sides: &[i64]) -> Option<Found> {
-        self.task.find(room, sides)
+        self.search.find(room, sides)
     }
 
     fn next(
@@ -193,7 +195,7 @@ impl<V: Visitor> Guide for Showing<'_, V> {
     }
 
     fn take_leaf(&self, room: &Lanes, verdict: Found, out: &mut V) -> Result<(), Unkept> {
-        self.task.show(room, verdict, out)
+        self.search.show(room, verdict, out)
     }
 
     fn take_unknown(&self, out: &mut V) -> Result<(), Unkept> {

@@ -1,12 +1,12 @@
 //! What is sought of a rectangle: a certificate from above, or one from below.
 
-ghost use Rattle.std.specs.Prelude.{◌≡◌, IfSome, IsFalse, IsNone, IsTrue, ℕ};
-ghost use Rattle.lift_grid.specs.Rectangle.{Spans, spans_of};
-ghost use Rattle.corner_lift.specs.Case.{CaseData};
+ghost use Rattle.std.specs.Prelude.{◌≡◌, ◌≤◌, IfSome, IsFalse, IsNone, IsTrue};
+ghost use Rattle.lift_grid.specs.Rectangle.{spans_of};
+ghost use Rattle.corner_lift.specs.Case.{most_precision};
 ghost use Rattle.lift_collapse.specs.Filled.{IsFilled};
 ghost use Rattle.region_tree.specs.Decided.{CanAsk};
 ghost use Rattle.region_tree.specs.Rooms.{HasPools, KeepsPools};
-ghost use Rattle.region_tree.specs.Sides.{AreApart, IsSoundFor, IsTold};
+ghost use Rattle.region_tree.specs.Sides.{AgreeAtPrecisions, AreApart, IsSoundFor, IsTold};
 
 use crate::decided::Outlook;
 use crate::finder::Finder;
@@ -19,19 +19,15 @@ use lower_cert::Rate;
 /// Seeks the certificates of a rectangle that decide it: one that bounds from above what is reached, or one that bounds
 /// it from below.
 pub trait Sought {
-    ghost use Rattle.region_tree.specs.declared.pools.Pools.{Pools};
+    ghost use Rattle.region_tree.specs.Sides.{Certificates};
 
-    /// The certificate from above that stands in the lanes decides a rectangle of a case.
-    ghost above: { Self → CaseData → Spans → Pools → Type 0 };
+    /// Which certificates those are.
+    ghost certificates: { Self → Certificates };
 
-    /// That from below does, with `e` and `k`.
-    ghost below: { Self → CaseData → Spans → Pools → ℕ → ℕ → Type 0 };
-
-    /// No certificate from above decides it.
-    ghost none_above: { Self → CaseData → Spans → Type 0 };
-
-    /// None from below does.
-    ghost none_below: { Self → CaseData → Spans → Type 0 };
+    /// The greatest number over 2 to the precision `u` with which a certificate from above decides. By it a precision is
+    /// chosen that is tried, and nothing that is decided rests on it.
+    fn limit(&self, u: u32) -> i64
+        requires { u ≤ most_precision };
 
     /// Whether a certificate from above decides the rectangle. Then it is in the lanes.
     fn find_above(
@@ -45,8 +41,8 @@ pub trait Sought {
         requires pools { HasPools finder.now.case.now.model pools.old }
         ensures collapse { collapse.new ≡ collapse.old }
         ensures pools { KeepsPools pools.old pools.new }
-        ensures found { IsTrue result → above self.now finder.now.case.now (spans_of finder.now.sides.now) pools.new }
-        ensures none { IsFalse result → none_above self.now finder.now.case.now (spans_of finder.now.sides.now) };
+        ensures found { IsTrue result → (certificates self.now).above finder.now.case.now (spans_of finder.now.sides.now) pools.new }
+        ensures none { IsFalse result → (certificates self.now).none_above finder.now.case.now (spans_of finder.now.sides.now) };
 
     /// The rate of a certificate from below that decides it. Then the rest of it is in the lanes.
     fn find_below(
@@ -60,12 +56,16 @@ pub trait Sought {
         requires pools { HasPools finder.now.case.now.model pools.old }
         ensures collapse { collapse.new ≡ collapse.old }
         ensures pools { KeepsPools pools.old pools.new }
-        ensures found { IfSome result (λ rate. below self.now finder.now.case.now (spans_of finder.now.sides.now) pools.new rate.e rate.k) }
-        ensures none { IsNone result → none_below self.now finder.now.case.now (spans_of finder.now.sides.now) };
+        ensures found { IfSome result (λ rate. (certificates self.now).below finder.now.case.now (spans_of finder.now.sides.now) pools.new rate.e rate.k) }
+        ensures none { IsNone result → (certificates self.now).none_below finder.now.case.now (spans_of finder.now.sides.now) };
 
     /// Where two rectangles share a valuation, not one is decided from above and the other from below. It does nothing.
     fn meeting_rectangles_agree(&self, case: &Case)
-        ensures { AreApart (above self.now) (below self.now) (none_above self.now) (none_below self.now) case.now };
+        ensures { AreApart (certificates self.now) case.now };
+
+    /// What is decided at a precision is decided at each greater one, from the same side. It does nothing.
+    fn precisions_agree(&self, case: &Case)
+        ensures { AgreeAtPrecisions (certificates self.now) case.now };
 }
 
 /// Whether a certificate from above decides the rectangle, if one may.
@@ -79,11 +79,11 @@ fn is_above<S: Sought>(
     requires asked { CanAsk finder.now.case.now finder.now.links.now (spans_of finder.now.sides.now) finder.now.weights.now }
     requires filled { IfSome collapse.old (IsFilled finder.now.case.now (spans_of finder.now.sides.now)) }
     requires pools { HasPools finder.now.case.now.model pools.old }
-    requires may { IsFalse may → S.none_above sought.now finder.now.case.now (spans_of finder.now.sides.now) }
+    requires may { IsFalse may → (S.certificates sought.now).none_above finder.now.case.now (spans_of finder.now.sides.now) }
     ensures collapse { collapse.new ≡ collapse.old }
     ensures pools { KeepsPools pools.old pools.new }
-    ensures found { IsTrue result → S.above sought.now finder.now.case.now (spans_of finder.now.sides.now) pools.new }
-    ensures none { IsFalse result → S.none_above sought.now finder.now.case.now (spans_of finder.now.sides.now) }
+    ensures found { IsTrue result → (S.certificates sought.now).above finder.now.case.now (spans_of finder.now.sides.now) pools.new }
+    ensures none { IsFalse result → (S.certificates sought.now).none_above finder.now.case.now (spans_of finder.now.sides.now) }
 {
     if !may {
         return false;
@@ -102,11 +102,11 @@ fn rate_below<S: Sought>(
     requires asked { CanAsk finder.now.case.now finder.now.links.now (spans_of finder.now.sides.now) finder.now.weights.now }
     requires filled { IfSome collapse.old (IsFilled finder.now.case.now (spans_of finder.now.sides.now)) }
     requires pools { HasPools finder.now.case.now.model pools.old }
-    requires may { IsFalse may → S.none_below sought.now finder.now.case.now (spans_of finder.now.sides.now) }
+    requires may { IsFalse may → (S.certificates sought.now).none_below finder.now.case.now (spans_of finder.now.sides.now) }
     ensures collapse { collapse.new ≡ collapse.old }
     ensures pools { KeepsPools pools.old pools.new }
-    ensures found { IfSome result (λ rate. S.below sought.now finder.now.case.now (spans_of finder.now.sides.now) pools.new rate.e rate.k) }
-    ensures none { IsNone result → S.none_below sought.now finder.now.case.now (spans_of finder.now.sides.now) }
+    ensures found { IfSome result (λ rate. (S.certificates sought.now).below finder.now.case.now (spans_of finder.now.sides.now) pools.new rate.e rate.k) }
+    ensures none { IsNone result → (S.certificates sought.now).none_below finder.now.case.now (spans_of finder.now.sides.now) }
 {
     if !may {
         return None;
@@ -127,11 +127,10 @@ pub(crate) fn decide_in<S: Sought>(
     requires asked { CanAsk finder.now.case.now finder.now.links.now (spans_of finder.now.sides.now) finder.now.weights.now }
     requires filled { IfSome collapse.old (IsFilled finder.now.case.now (spans_of finder.now.sides.now)) }
     requires pools { HasPools finder.now.case.now.model pools.old }
-    requires outlook { IsSoundFor (S.none_above sought.now) (S.none_below sought.now) finder.now.case.now (spans_of finder.now.sides.now) outlook }
+    requires outlook { IsSoundFor (S.certificates sought.now) finder.now.case.now (spans_of finder.now.sides.now) outlook }
     ensures collapse { collapse.new ≡ collapse.old }
     ensures pools { KeepsPools pools.old pools.new }
-    ensures told { IsTold (S.above sought.now) (S.below sought.now) (S.none_above sought.now) (S.none_below sought.now)
-        finder.now.case.now (spans_of finder.now.sides.now) pools.new result }
+    ensures told { IsTold (S.certificates sought.now) finder.now.case.now (spans_of finder.now.sides.now) pools.new result }
 {
     let Outlook {
         may_accept,

@@ -12,14 +12,15 @@ ghost use Rattle.region_tree.specs.Rooms.{IsMadeFor};
 ghost use Rattle.region_tree.specs.Walking.{AreReady, leaf_in};
 
 use crate::laws::certificates_are_one;
-use crate::leaf::{Found, Rejection};
 use crate::room::{Lanes, Room};
-use crate::task::Task;
+use crate::search::Search;
+use crate::side::{Found, Side};
 use corner_lift::{Case, lower_precisions_are_cases};
 use lift_cert::Bound;
 use lift_grid::{Marks, Values};
 use lift_model::Links;
 use lift_walk::{Given, Guide, Walker};
+use lower_cert::Rate;
 use std::alloc::{AllocError, Global};
 
 /// What stands at the top of a tree.
@@ -68,7 +69,7 @@ impl Tree {
 /// Builds the tree of a case. Its nodes go nowhere else, and nothing of it is known beforehand.
 #[derive(Drop)]
 struct Building<'a> {
-    task: Task<'a>,
+    search: Search<'a, Bound>,
     alloc: Global,
 }
 
@@ -87,17 +88,17 @@ impl Guide for Building<'_> {
 
     ghost Leaf = { Decision };
 
-    ghost case = { λ b. b.task.case.now };
+    ghost case = { λ b. b.search.case.now };
 
-    ghost decides = { λ b. Decides b.task.case.now b.task.from b.task.bound };
+    ghost decides = { λ b. Decides b.search.case.now b.search.from b.search.sought };
 
-    ghost is_open = { λ b spans. IsOpen b.task.case.now b.task.from spans b.task.bound };
+    ghost is_open = { λ b spans. IsOpen b.search.case.now b.search.from spans b.search.sought };
 
     ghost may = { λ _ _ _. ⊥ };
 
     ghost leaf = { λ _ lanes found. leaf_in lanes.pools found };
 
-    ghost is_ready = { λ b. AreReady b.task.case.now b.task.links.now b.task.bound b.task.from };
+    ghost is_ready = { λ b. AreReady b.search.case.now b.search.links.now b.search.sought b.search.from };
 
     ghost Fixed = { Unit {0} };
 
@@ -128,7 +129,7 @@ impl Guide for Building<'_> {
     ghost is_ahead = { λ _ _ _ trees. AllByRecursion (λ t. t ≡ Halved.unknown) trees };
 
     fn decide(&self, room: &mut Lanes, sides: &[i64]) -> Option<Found> {
-        self.task.find(room, sides)
+        self.search.find(room, sides)
     }
 
     fn next(
@@ -147,12 +148,13 @@ impl Guide for Building<'_> {
 
     fn take_leaf(&self, room: &Lanes, verdict: Found, _out: &mut ()) -> Result<Branch, AllocError> {
         let pools = &room.pools;
-        Ok(match verdict {
-            Found::Accepted(u) => Branch::Accept {
+        let Found { u, side } = verdict;
+        Ok(match side {
+            Side::Above => Branch::Accept {
                 u,
                 x: Values::from_slice(self.alloc, pools.values.lane(0))?,
             },
-            Found::Rejected(Rejection { u, e, k }) => Branch::Reject {
+            Side::Below(Rate { e, k }) => Branch::Reject {
                 u,
                 e,
                 k,
@@ -178,17 +180,17 @@ impl Guide for Building<'_> {
 impl Building<'_> {
     // The tree of the case, in a room that was made for it.
     fn build_in(&self, room: &mut Room) -> Result<Branch, AllocError>
-        requires from { Between 1 self.now.task.case.now.w self.now.task.from }
-        requires links { AreLinks self.now.task.case.now.model self.now.task.links.now }
-        requires made { IsMadeFor self.now.task.case.now self.now.task.links.now room.old }
-        ensures { IfOk result (λ b. IsRightTree self.now.task.case.now self.now.task.from self.now.task.bound (tree_of b)) }
+        requires from { Between 1 self.now.search.case.now.w self.now.search.from }
+        requires links { AreLinks self.now.search.case.now.model self.now.search.links.now }
+        requires made { IsMadeFor self.now.search.case.now self.now.search.links.now room.old }
+        ensures { IfOk result (λ b. IsRightTree self.now.search.case.now self.now.search.from self.now.search.sought (tree_of b)) }
     {
         certificates_are_one();
         lower_precisions_are_cases();
-        let _ = self.task.case.w();
+        let _ = self.search.case.w();
         room.lanes.forget();
         let walker = Walker {
-            case: self.task.case,
+            case: self.search.case,
             guide: self,
         };
         walker.walk(false, &mut room.sides, &mut room.lanes, &mut (), &mut ())
@@ -209,13 +211,13 @@ pub fn build(
     ensures { IfOk result (λ t. IsRightTree case.now from bound (tree_of t.top)) }
 {
     let mut room = Room::make(alloc, case, links)?;
-    let task = Task {
+    let search = Search {
         case: &*case,
         links: &*links,
-        bound,
+        sought: bound,
         from,
     };
-    let building = Building { task, alloc };
+    let building = Building { search, alloc };
     let top = building.build_in(&mut room);
     drop(room);
     Ok(Tree { top: top? })

@@ -1,6 +1,3 @@
-ghost use Rattle.std.specs.Prelude.{◌≡◌, IsFalse};
-ghost use Rattle.region_tree.specs.declared.verdict.Verdict.TheVariants.{Unknown};
-
 /// What is decided of a rectangle, for a bound and a range of precisions. A precision decides where there is a
 /// certificate of either kind.
 #[derive(Clone, Copy, Debug, PartialEq, Eq)]
@@ -12,12 +9,4 @@ pub enum Verdict {
     Reject { u: u32, e: u32, k: u32 },
     /// No precision of the range decides.
     Unknown,
-}
-
-/// Whether there is a certificate.
-pub(crate) fn is_decided(verdict: Verdict) -> bool
-    ensures open { IsFalse result → verdict ≡ Unknown }
-    ensures decided { verdict ≡ Unknown → IsFalse result }
-{
-    !matches!(verdict, Verdict::Unknown)
 }

@@ -7,8 +7,8 @@ ghost use Rattle.region_tree.specs.Visits.{Walks};
 
 use crate::laws::certificates_are_one;
 use crate::room::Room;
+use crate::search::Search;
 use crate::showing::{Showing, seen};
-use crate::task::Task;
 use crate::visitor::{Seen, Visitor};
 use corner_lift::{Case, lower_precisions_are_cases};
 use lift_cert::Bound;
@@ -46,14 +46,14 @@ pub fn walk<V: Visitor>(
     lower_precisions_are_cases();
     let _ = case.w();
     room.lanes.forget();
-    let task = Task {
+    let search = Search {
         case: &*case,
         links: &*links,
-        bound,
+        sought: bound,
         from,
     };
     let showing: Showing<V> = Showing {
-        task,
+        search,
         visitor: PhantomData,
     };
     let walker = Walker {

@@ -20,4 +20,7 @@ returns g c =
     let bound = c.args.question.now.bound in
     nodes_reported (concat (property_head k op bound)) (IsTreeText k op bound k.root 0) g.K.Sink.taken g.K.Sink.faults c.args.out.now
     c.write_property_head.new.out c.write_tree.new.out _ c.write_tree.result c.in_ok-write_property_head.ensures
-    c.write_tree.ensures.wrote
+    (rw c.requires.from at c.write_tree.ensures.wrote)
+
+pub write_tree-requires : goal.write_tree-requires
+write_tree-requires g c = record { links = c.requires.links; made = c.requires.made; from = rw c.requires.from tt }

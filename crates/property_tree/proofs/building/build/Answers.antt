@@ -1,14 +1,9 @@
-use Rattle.property_tree.proofs.Single.{decided_not_open}
+use Rattle.property_tree.proofs.Single.{each_one}
 use Rattle.property_tree.proofs.Ready.{ready_at_first}
 use Rattle.property_tree.proofs.building.build.Goals as goal
 
 pub build_tree-requires-clause-leaves : goal.build_tree-requires-clause-leaves
-build_tree-requires-clause-leaves c =
-    let k = c.args.case.now in
-    record {
-      one = λ spans l m inside a b. c.leaves_are_one.ensures k c.args.op c.args.bound spans l m c.w.ensures.case inside a b;
-      none = λ spans l inside. decided_not_open k c.args.op c.args.bound spans l;
-    }
+build_tree-requires-clause-leaves c = each_one c.leaves_are_one.ensures c.args.case.now c.args.op c.args.bound c.w.ensures.case
 
 pub build_tree-requires-clause-ready : goal.build_tree-requires-clause-ready
 build_tree-requires-clause-ready c =

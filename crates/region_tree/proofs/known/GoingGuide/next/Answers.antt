@@ -12,7 +12,7 @@ use Rattle.region_tree.proofs.known.GoingGuide.next.Goals as goal
 
 pub note_accepted-requires : goal.note_accepted-requires
 note_accepted-requires g c =
-    let k = c.args.self.now.task.case.now in
+    let k = c.args.self.now.search.case.now in
     let ready = c.requires.ready.1 in
     let size : length c.args.sides.now ≡ 2 * length k.model.names = inside_ends k c.w.ensures.case c.args.sides.now c.requires.sides in
     let decided : c.room.inside.decided ≡ c.args.room.now.decided = ap (λ l. l.decided) c.room.view_is in
@@ -20,7 +20,7 @@ note_accepted-requires g c =
 
 pub note_rejected-requires : goal.note_rejected-requires
 note_rejected-requires g c =
-    let k = c.args.self.now.task.case.now in
+    let k = c.args.self.now.search.case.now in
     let ready = c.requires.ready.1 in
     let size : length c.args.sides.now ≡ 2 * length k.model.names = inside_ends k c.w.ensures.case c.args.sides.now c.requires.sides in
     let decided : c.room.inside.decided ≡ c.args.room.now.decided = ap (λ l. l.decided) c.room.view_is in
@@ -38,19 +38,19 @@ returns-in-Unknown-clause-given g c t rest ahead =
 
 pub returns-in-Accept-clause-ready : goal.returns-in-Accept-clause-ready
 returns-in-Accept-clause-ready g c made ready =
-    let task = c.args.self.now.task in
-    let k = task.case.now in
+    let search = c.args.self.now.search in
+    let k = search.case.now in
     let room = c.args.room.now in
     let noted = c.note_accepted.new.self in
     let decided : c.room.inside.decided ≡ room.decided = ap (λ l. l.decided) c.room.view_is in
     let places : KeepsPlaces room.decided noted = rw decided at c.note_accepted.ensures.places in
     let notes : NotesAccepted c.args.sides.now room.decided noted = rw decided at c.note_accepted.ensures.notes in
     let ahead = c.requires.ahead in
-    let known = accept_noted g.B.Base.is_ahead g.B.Base.bytes (g.B.Base.entry c.args.base.now) c.args.base.now c.next.new.self c.certificates_are_of_one_kind.ensures.shared k c.w.ensures.case task.bound c.args.sides.now c.requires.sides room.decided noted ready.known
+    let known = accept_noted g.B.Base.is_ahead g.B.Base.bytes (g.B.Base.entry c.args.base.now) c.args.base.now c.next.new.self c.certificates_are_of_one_kind.ensures.shared k c.w.ensures.case search.sought c.args.sides.now c.requires.sides room.decided noted ready.known
     c.certificates_double.ensures.accepting c.ranks_fit.ensures.any c.in-Accept.ensures.gives ahead.0 ahead.1.0 ahead.1.1.0.0 ahead.1.1.1 notes in
     let after : LanesData = record room { decided = noted } in
-    let still : AreReady k task.links.now task.bound task.from made after = still_ready k task.links.now task.bound task.from made room after (shape_with room room noted (same_shape room) places) known ready in
-    subst (λ l. AreReady k task.links.now task.bound task.from made l) (sym (ap (λ (l : LanesData). let x : LanesData = record l { decided = noted } in x) c.room.view_is)) still
+    let still : AreReady k search.links.now search.sought search.from made after = still_ready k search.links.now search.sought search.from made room after (shape_with room room noted (same_shape room) places) known ready in
+    subst (λ l. AreReady k search.links.now search.sought search.from made l) (sym (ap (λ (l : LanesData). let x : LanesData = record l { decided = noted } in x) c.room.view_is)) still
 
 pub returns-in-Accept-clause-given : goal.returns-in-Accept-clause-given
 returns-in-Accept-clause-given g c t rest ahead =
@@ -69,19 +69,19 @@ returns-in-Accept-clause-given g c t rest ahead =
 
 pub returns-in-Reject-clause-ready : goal.returns-in-Reject-clause-ready
 returns-in-Reject-clause-ready g c made ready =
-    let task = c.args.self.now.task in
-    let k = task.case.now in
+    let search = c.args.self.now.search in
+    let k = search.case.now in
     let room = c.args.room.now in
     let noted = c.note_rejected.new.self in
     let decided : c.room.inside.decided ≡ room.decided = ap (λ l. l.decided) c.room.view_is in
     let places : KeepsPlaces room.decided noted = rw decided at c.note_rejected.ensures.places in
     let notes : NotesRejected c.args.sides.now room.decided noted = rw decided at c.note_rejected.ensures.notes in
     let ahead = c.requires.ahead in
-    let known = reject_noted g.B.Base.is_ahead g.B.Base.bytes (g.B.Base.entry c.args.base.now) c.args.base.now c.next.new.self c.certificates_are_of_one_kind.ensures.shared k c.w.ensures.case task.bound c.args.sides.now c.requires.sides room.decided noted ready.known
+    let known = reject_noted g.B.Base.is_ahead g.B.Base.bytes (g.B.Base.entry c.args.base.now) c.args.base.now c.next.new.self c.certificates_are_of_one_kind.ensures.shared k c.w.ensures.case search.sought c.args.sides.now c.requires.sides room.decided noted ready.known
     c.certificates_double.ensures.rejecting c.in-Reject.ensures.gives ahead.0 ahead.1.0 ahead.1.1.0.0 ahead.1.1.1 notes in
     let after : LanesData = record room { decided = noted } in
-    let still : AreReady k task.links.now task.bound task.from made after = still_ready k task.links.now task.bound task.from made room after (shape_with room room noted (same_shape room) places) known ready in
-    subst (λ l. AreReady k task.links.now task.bound task.from made l) (sym (ap (λ (l : LanesData). let x : LanesData = record l { decided = noted } in x) c.room.view_is)) still
+    let still : AreReady k search.links.now search.sought search.from made after = still_ready k search.links.now search.sought search.from made room after (shape_with room room noted (same_shape room) places) known ready in
+    subst (λ l. AreReady k search.links.now search.sought search.from made l) (sym (ap (λ (l : LanesData). let x : LanesData = record l { decided = noted } in x) c.room.view_is)) still
 
 pub returns-in-Reject-clause-given : goal.returns-in-Reject-clause-given
 returns-in-Reject-clause-given g c t rest ahead =

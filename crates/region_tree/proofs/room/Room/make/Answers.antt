@@ -1,5 +1,5 @@
 use Rattle.std.proofs.Common.{◌∷◌, [], ◌∙◌, ap, pos}
-use Rattle.region_tree.proofs.Found.{found_of}
+use Rattle.region_tree.proofs.Collapses.{found_of}
 use Rattle.region_tree.proofs.Shapes.{lane_filled}
 use Rattle.region_tree.proofs.room.Room.make.Goals as goal
 
