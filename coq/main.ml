@@ -98,14 +98,15 @@ let again n =
   n.count <- -1;
   next
 
-(* While the model is read, and where memory is used again, there is little garbage but what is young; of a large model
-   less room is left to the lines of numbers that are garbage. *)
+(* While the model is read, and where memory is used again, there is little garbage but what is young; less room is left to
+   the rows of long states, and to the lines of numbers of a large model, that are garbage. *)
 let room percent = Gc.set { (Gc.get ()) with minor_heap_size = 1 lsl 16; space_overhead = percent }
-let has_model = ref false
+let is_tight = ref false
+let tighten_if large = if large && not !is_tight then begin is_tight := true; room 80 end
 let at_place : (int, numbers) Hashtbl.t = Hashtbl.create 3
 let fresh place size =
   let place = Z.to_int place and size = Z.to_int size in
-  if not !has_model then begin has_model := true; if size > 8192 then room 50 end;
+  tighten_if (size > 4096);
   let next =
     match Hashtbl.find_opt at_place place with
     | Some n when place <> 0 && n.size = size -> again n
@@ -130,22 +131,96 @@ let see n =
     else if n.count < 0 then raise Taken_away
     else Z.zero
 
-(* A place in the tree of shapes for each list of polynomials. *)
-let mixed z = if Z.small z then Z.int z else Z.hash z
+(* The rows of a state as a string, the last one first, and so are the targets of each, its polynomials and their terms: so
+   they are made again from their ends on. Numbers are written by sevens of bits, the lowest first. A row begins with twice
+   the number of its targets, and one more where polynomials of its own stand behind them, each with the number of its
+   terms; a term with twice its set of parameters, and one more where its coefficient is no integer of OCaml's. *)
+exception Unfit
+let string = Buffer.create 4096
+let rec put n =
+  if n land lnot 127 = 0 then Buffer.add_char string (Char.unsafe_chr n)
+  else begin Buffer.add_char string (Char.unsafe_chr (n land 127 lor 128)); put (n lsr 7) end
+let put_small z = if Z.small z && Z.int z >= 0 && Z.int z < 1 lsl 40 then put (Z.int z) else raise Unfit
+let put_term (m, c) =
+  if Z.small c then begin put_small (Z.mul (Z.own 2) m); put (Z.int c lsl 1 lxor (Z.int c asr 62)) end
+  else begin
+    let bits = Z.to_bits c in
+    put_small (Z.add (Z.mul (Z.own 2) m) Z.one);
+    put (2 * String.length bits + if Z.sign c < 0 then 1 else 0);
+    Buffer.add_string string bits
+  end
+let put_poly p = put (List.length p); List.iter put_term (List.rev p)
+let put_row row =
+  let targets = targets row in
+  let n = List.length targets in
+  put (2 * n + match row with Own _ -> 1 | Shared _ -> 0);
+  List.iter put_small (List.rev targets);
+  match row with
+  | Own (_, polys) -> if List.length polys <> n then raise Unfit else List.iter put_poly (List.rev polys)
+  | Shared (_, place) -> put_small place
+
+(* Where it is read on. *)
+let at = ref 0
+let byte_at s = let b = Char.code (String.unsafe_get s !at) in incr at; b
+let rec more_at s shift n =
+  let b = byte_at s in
+  if b < 128 then n lor (b lsl shift) else more_at s (shift + 7) (n lor ((b land 127) lsl shift))
+let number_at s = let b = byte_at s in if b < 128 then b else more_at s 7 (b land 127)
+let big_at s =
+  let size = number_at s in
+  let c = Z.of_bits (String.sub s !at (size lsr 1)) in
+  at := !at + size lsr 1;
+  if size land 1 = 1 then Z.neg c else c
+let rec targets_at s n l = if n = 0 then l else let t = Z.own (number_at s) in targets_at s (n - 1) (t :: l)
+let rec terms_at s n l =
+  if n = 0 then l
+  else
+    let m = number_at s in
+    let c = if m land 1 = 1 then big_at s else let z = number_at s in Z.own (z lsr 1 lxor (- (z land 1))) in
+    terms_at s (n - 1) ((Z.own (m lsr 1), c) :: l)
+let rec polys_at s n l = if n = 0 then l else let p = terms_at s (number_at s) [] in polys_at s (n - 1) (p :: l)
+let rec rows_at s l =
+  if !at = String.length s then l
+  else
+    let head = number_at s in
+    let n = head lsr 1 in
+    let ts = targets_at s n [] in
+    rows_at s ((if head land 1 = 1 then Own (ts, polys_at s n []) else Shared (ts, Z.own (number_at s))) :: l)
+let pack rows =
+  Buffer.clear string;
+  match List.iter put_row (List.rev rows) with
+  | () ->
+      let s = Buffer.contents string in
+      tighten_if (String.length s > 256);
+      fun () -> at := 0; rows_at s []
+  | exception Unfit -> fun () -> rows
+
+(* A place in the tree for polynomials that rows share. New ones are given a place while there are few terms in all, beside
+   those of the rows that were found to share: what is kept of them takes much memory. *)
 module Table = Hashtbl.Make (struct
   type t = (Z.t * Z.t) list list
   let equal = same_polys
-  let rec of_poly h = function [] -> h | (m, c) :: rest -> of_poly ((h * 31 + mixed m) * 31 + mixed c) rest
+  let bits z = if Z.small z then Z.int z else Z.hash z
+  let mix h n = let h = (h lxor n) * 0x1b873593cc9e2d51 in h lxor (h lsr 32)
+  let rec of_poly h = function [] -> mix h 0 | (m, c) :: rest -> of_poly (mix (mix h (bits m)) (bits c)) rest
   let rec of_polys h = function [] -> h | poly :: rest -> of_polys (of_poly h poly) rest
   let hash polys = of_polys 7 polys land max_int
 end)
 let places = Table.create 1024
-let hint polys =
-  try Table.find places polys
-  with Not_found ->
-    let rec place n = if n = 1 then Here else if n land 1 = 0 then Lo (place (n / 2)) else Hi (place (n / 2)) in
-    let p = place (Table.length places + 1) in
-    Table.add places polys p; p
+let kept = ref 0 and shared = ref 0
+let terms polys = List.fold_left (fun n p -> n + List.length p) 0 polys
+let hint _ _ polys =
+  let size = terms polys in
+  match Table.find places polys with
+  | place -> shared := !shared + size; place
+  | exception Not_found ->
+      if !kept + size > 1024 + !shared / 16 then Z.zero
+      else begin
+        let place = Z.own (Table.length places + 1) in
+        kept := !kept + size;
+        Table.add places polys place;
+        place
+      end
 
 let named fault = "not sound: " ^ (try Faults.name !number !whole fault with _ -> "no place or cause was found")
 let refused fault = match end_line () with
@@ -163,7 +238,7 @@ let main () =
        print_string "coq-check [FILE]: says whether a text of plift is sound; reads standard input where FILE is left out\n"; exit 0
    | [| _; file |] when file = "" || file.[0] <> '-' -> (try channel := open_in_bin file with Sys_error e -> refuse 5 ("read fault: " ^ e))
    | _ -> refuse 2 "usage: coq-check [FILE]");
-  match check fresh push see hint pieces with
+  match check fresh push see hint pack pieces with
   | Sound (g, a, b, c) when !whole = None ->
       let a, b, c = Z.to_string a, Z.to_string b, Z.to_string c in
       (try

@@ -110,6 +110,39 @@ def wide_row(targets: int) -> bytes:
     return ("\n".join(lines) + "\n").encode()
 
 
+def unlike_rows(states: int, terms: int, digits: int) -> Tuple[bytes, int]:
+    """A report in which no two rows are alike, and how many bytes its rows are: each leads to the goal and to one or
+    two other states, with polynomials of so many terms and with numbers of so many digits.
+    """
+    dice, goal, common = random.Random(SEED), states - 1, 6 * terms * 10**digits
+    rows: List[str] = []
+    for state in range(goal):
+        polys = [[dice.randrange(1, 10**digits) for _ in range(terms)] for _ in range(1 + state % 2)]
+        sums = [sum(numbers) for numbers in zip(*polys)]
+        polys.insert(0, [common - sums[0]] + [-number for number in sums[1:]])
+        rows.append(f"row {state} 0 {len(polys)}")
+        for target, poly in zip([goal, (state + 1) % goal, (state + 7) % goal], polys):
+            rows.append(f"to {target} " + " ".join(f"{parameters}:{number}" for parameters, number in enumerate(poly)))
+    head = [
+        "plift 1",
+        "kind dtmc",
+        "parameters 3 p q r",
+        f"common {common}",
+        f"states {states}",
+        f"init {goal}",
+        f"goal 1 {goal}",
+    ]
+    region = ["bound 0/1", "precision 20", "depth 1", "grid 20", "box 2 18 2 18 2 18"]
+    leaf = [
+        "reject e 1 k 1 m 1 b 1048576/1048576",
+        "y " + "0 " * goal + "1048576",
+        "choice " + "0 " * goal + "-",
+        "rank " + "1 " * goal + "0",
+    ]
+    last = [f"row {goal} 0 1", f"to {goal} 0:{common}"]
+    return ("\n".join([*head, *rows, *last, *region, "split 0", *leaf, *leaf]) + "\n").encode(), len("\n".join(rows))
+
+
 @unittest.skipUnless(CHECKER.is_file(), "coq/coq-check isn't built (make -C coq)")
 class CoqCase(unittest.TestCase):
     """A test of coq/coq-check."""
@@ -148,6 +181,15 @@ class Texts(CoqCase):
                     f"change {number} of seed {SEED}, kept as {kept.name}: {checked(text)}, {WORKED.rechecked(text)}"
                 )
 
+    def test_rows_that_share_nothing(self) -> None:
+        text, _ = unlike_rows(600, 2, 6)
+        self.alike("no two rows alike", text)
+        for row in (0, 1, 300, 598):
+            self.alike(f"changed row {row}", text.replace(b"row %d 0 " % row, b"row %d 0 1" % row))
+            begin = text.index(b"row %d 0 " % row)
+            for old, new in ((b"0:", b"0:9"), (b" 1:-", b" 1:-9"), (b"to ", b"to 9"), (b"1:", b"4:")):
+                self.alike(f"row {row} with {new!r}", text[:begin] + text[begin:].replace(old, new, 1))
+
     @unittest.skipUnless(QUICK.is_file(), "the quick program isn't built")
     def test_what_plift_makes_is_sound(self) -> None:
         for row, text in made():
@@ -174,6 +216,12 @@ class Texts(CoqCase):
             coin.replace(b"row 0", b"row x" + b" 1" * 2**20),
             coin.replace(b"row 0", b"row 0" + b" 1" * (2**19 - 3)),
             coin[: coin.index(b"row 0") + 5] + b" x 1",
+            coin.replace(b"rank 1 0 -", b"rank 1 0 -1"),
+            coin.replace(b"rank 1 0 -", b"rank 1 -20"),
+            coin.replace(b"rank 1 0 -", b"rank -1 0 x"),
+            coin.replace(b"rank 1 0 -", b"rank -1 0 - -"),
+            coin.replace(b"choice 0 - -", b"choice -1 -2 -"),
+            coin.replace(b"choice 0 - -", b"choice -1 -"),
         ):
             self.alike(repr(text[:60]), text)
 
@@ -229,6 +277,13 @@ class Ends(CoqCase):
         )
         self.assertGreater(len(many), 20 * len(few))
         self.assertLess(peak(many), peak(few) + 2 * 10**6)
+
+    def test_memory_where_no_two_rows_are_alike(self) -> None:
+        text, _ = unlike_rows(60000, 2, 6)
+        self.assertEqual(checked(text).out, b"sound accept 0 reject 2 unknown 0\n")
+        self.assertLess(peak(text), 300 * 60000)
+        text, size_of_rows = unlike_rows(15000, 8, 16)
+        self.assertLess(peak(text), 5 * 10**6 + 300 * 15000 + size_of_rows)
 
     def test_want_of_memory(self) -> None:
         text = wide_row(20000)

@@ -36,8 +36,9 @@ WRONG = [
     ),
     Wrong(
         "ranks are passed over",
-        "below T y z r && below T (fun t => let j := rank t in if j <? i then if j <? 0 then 0 else w else 0) 1 r.",
-        "below T y z r.",
+        "below_at l y z r && "
+        "below_at l (fun t => let j := rank t in if j <? i then if j <? 0 then 0 else w else 0) 1 r.",
+        "below_at l y z r.",
         "Tests",
     ),
     Wrong(
@@ -60,8 +61,8 @@ WRONG = [
     ),
     Wrong(
         "the printed choice isn't the one that is tested",
-        "match nth_row p (choices c) with Some r => test r | None => false end.",
-        "match nth_row 0 (choices c) with Some r => test r | None => false end.",
+        "match nth_row p (choices c tt) with Some r => test r | None => false end.",
+        "match nth_row 0 (choices c tt) with Some r => test r | None => false end.",
         "Tests",
     ),
     Wrong(
@@ -69,6 +70,25 @@ WRONG = [
         "(n * one <=? price s * (d * cap)) && prices_hold",
         "(price s * (d * cap) <=? n * one) && prices_hold",
         "Leaves",
+    ),
+    Wrong(
+        "rows are kept without a look at what is told again",
+        "if same_rows (k tt) l then k else fun _ => l.",
+        "k.",
+        "States",
+    ),
+    Wrong(
+        "a row takes what polynomials stand at its place",
+        "if same_polys qs ps then Shared ts p else Own ts ps",
+        "Shared ts p",
+        "States",
+    ),
+    Wrong(
+        "polynomials that a row doesn't share aren't tested over the region",
+        "tall (test_polys S b greatest) (shared S) && "
+        "forallb (fun c => forallb (test_own S b greatest) (choices c tt)) (cs S).",
+        "tall (test_polys S b greatest) (shared S).",
+        "Weights",
     ),
 ]
 
