@@ -69,6 +69,8 @@ class EdgeSearch:
         self.near, self.far = (low, high) if is_greatest else (high, low)
         self._sign = 1 if is_greatest else -1
         self._desk = Desk(session, question, lambda name, side: None)
+        self._is_cost = question.form.reward is not None
+        """No cost is shown from below: nothing is rejected, at no point and at no depth."""
 
     def run(self, width: Fraction, tell: Callable[[Fraction, Fraction], None]) -> Edge:
         """The edge to a width."""
@@ -80,7 +82,7 @@ class EdgeSearch:
                 return Edge(self.parameter, self.is_greatest, self.far, self.far, whole, None)
             broken = self.far
         good, bad, inside = self._accepted(kept, broken, width, tell)
-        outside = None if point is None else self._rejected(point, broken, width)
+        outside = None if point is None or self._is_cost else self._rejected(point, broken, width)
         edge = Edge(self.parameter, self.is_greatest, good, bad, inside, outside)
         return edge if edge.limit is not None else self._look_beyond(edge, tell)
 
@@ -177,9 +179,7 @@ class EdgeSearch:
         beyond = far if bad == far else (min if self.is_greatest else max)(bad + (bad - good), far)
         edge = replace(edge, outside=self.session.ask(self._between(begin, beyond)))
         for depth in range(self.question.depth + LEVELS, MOST_DEPTH + 1, LEVELS):
-            if edge.limit is not None or edge.outside is None or len(edge.outside.nodes) > MOST_NODES:
-                break
-            if self.question.form.reward is not None:  # no cost is shown from below, at no depth
+            if edge.limit is not None or edge.outside is None or len(edge.outside.nodes) > MOST_NODES or self._is_cost:
                 break
             tell(good, bad)
             edge = replace(edge, outside=self.session.deepen(self._between(begin, beyond, depth), edge.outside))

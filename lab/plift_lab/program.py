@@ -90,12 +90,12 @@ class Program:
         """The program at work, which is ended behind it, whatever happened."""
         process = None
         try:
-            with _signals_held():
+            with signals_held():
                 process = self._start(words, source, sink)
             yield process
         finally:
             if process is not None:
-                _end(process)
+                end(process)
 
     def _start(self, words: List[str], source: IO[bytes], sink: Union[BinaryIO, int]) -> subprocess.Popen[bytes]:
         try:
@@ -105,7 +105,7 @@ class Program:
 
 
 @contextlib.contextmanager
-def _signals_held() -> Iterator[None]:
+def signals_held() -> Iterator[None]:
     """Holds back what would end this call, until a program that is started has a name by which it can be ended."""
     if threading.current_thread() is not threading.main_thread():
         yield  # only the main thread is told of signals
@@ -135,7 +135,7 @@ def ended(process: subprocess.Popen[bytes], watch: Optional[Callable[[], None]] 
                 watch()
 
 
-def _end(process: subprocess.Popen[bytes]) -> None:
+def end(process: subprocess.Popen[bytes]) -> None:
     """Leaves no process behind, whatever happened."""
     if process.poll() is None:
         process.kill()

@@ -137,6 +137,7 @@ class Session:
         if isinstance(fault, KeyboardInterrupt) and self.progress.known:
             fault.args = (fault.args[0] if fault.args else None, 'so far: ' + self.progress.known)
         self.progress.clear()
+        self.judge.close()
         self.evidence.close(self.is_lasting)
 
     def ask(self, question: Question) -> Report:

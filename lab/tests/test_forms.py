@@ -10,7 +10,7 @@ from unittest import mock
 from plift_lab.faults import Fault
 from plift_lab.forms import Asked, Form, read_formula
 from plift_lab.judging import RECHECK
-from plift_lab.program import find_program
+from plift_lab.program import Program, find_program
 from plift_lab.session import Session
 
 from .helpers import EXAMPLES, RETRY, InFolder, run
@@ -205,6 +205,17 @@ class Answers(InFolder):
         self.assertEqual(status, 0)
         self.assertTrue(edge**3 <= 0.01 < (edge + 0.001) ** 3, edge)
         self.assertGreaterEqual(float(Fraction(found['rejected_at'])) ** 3, 0.01)
+
+    def test_a_threshold_of_costs(self) -> None:
+        """1 + p + p^2 is 13/10 at p = .2416; a point that would be rejected isn't asked for, since none is."""
+        formula = ('--formula', 'R{"sends"}<=1.3 [F "done"]', '--cap', '3')
+        with mock.patch.object(Program, 'verify', autospec=True, side_effect=Program.verify) as started:
+            words = ('--parameter', 'p', '--region', 'p=1/20..1/2,q=1/20..1/10', '--json')
+            status, told, _ = run('threshold', SENDS, *formula, *words)
+        edge = float(Fraction(json.loads(told)['accepted_to']))
+        self.assertEqual((status, json.loads(told)['rejected_at']), (1, None))
+        self.assertTrue(edge + edge**2 <= 0.3 < edge + 0.0005 + (edge + 0.0005) ** 2, edge)
+        self.assertLess(started.call_count, 20)
 
     def test_why_it_is_unknown(self) -> None:
         report = str(self.folder / 'a.text')

@@ -144,6 +144,7 @@ REWARDS = [
         "ActionReward",
         "an action's value is 0",
         "behind a state's number",
+        "where each choice of the state costs as much, plift-lab fit moves it there",
     ),
     sends("action radio\n1", "action [1,0]\n1", 11, "ActionReward", "an action's value is 0"),
     sends("action radio\n1", "action \"radio\"[0]\n1", 11, "RewardSyntax", "the group holds 1 value"),

@@ -98,7 +98,7 @@ def action_reward(place: Place) -> List[str]:
     if bad is None:
         return []
     return told_at(place, bad, "an action's value is 0: costs stand behind a state's number") + [
-        "where each choice of the state costs as much, write it there;"
+        "where each choice of the state costs as much, plift-lab fit moves it there;"
         " else let the choice lead to a state that costs it"
     ]
 
