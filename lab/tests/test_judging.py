@@ -165,5 +165,22 @@ class Answers(InFolder):
             self.assertFalse(is_there(process), ending)
 
 
+class Programs(InFolder):
+    def test_what_was_built_without_proofs(self) -> None:
+        """A quick build tells, and so does what was installed or released of one."""
+        for program, made in (
+            ('programs/plift', 'programs/made'),
+            ('bin/plift', 'libexec/plift/programs/made'),
+            ('quick/plift', 'elsewhere'),
+        ):
+            for text in (b'quick\n', b'proved\n'):
+                for name in (program, made):
+                    (self.folder / name).parent.mkdir(parents=True, exist_ok=True)
+                (self.folder / made).write_bytes(text)
+                is_unproved = text == b'quick\n' or program == 'quick/plift'
+                told = '%s check%s' % (self.folder / program, ', built without proofs' if is_unproved else '')
+                self.assertEqual(Program(self.folder / program).judge('check'), told)
+
+
 if __name__ == '__main__':
     unittest.main()

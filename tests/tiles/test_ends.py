@@ -168,6 +168,12 @@ class Ends(TilesCase):
         self.assertIn(came.status, (6, 128 + signal.SIGXFSZ), came.told)
         self.assertEqual((job.left, self.parts()), ([1], []))
 
+    def test_a_place_where_no_folder_can_be(self) -> None:
+        """It is named as it was given, and not by a file that would have been in it."""
+        came = self.call("split /proc/none --depth 7", (EXAMPLES / "retry-tree.report").read_bytes())
+        self.assertEqual((came.status, came.out), (2, b""))
+        self.assertEqual(came.told, "plift-tiles: /proc/none can't be written: No such file or directory\n")
+
     def test_streams_that_are_closed_or_full(self) -> None:
         job = self.done_job()
         lines = "--help", "join --help", "--version", "left work", "status work", "join work"

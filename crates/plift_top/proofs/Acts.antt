@@ -1,5 +1,5 @@
 -- What an answer says, by the refusal that it comes from.
-use Rattle.std.proofs.Common.{IsOk, ◌≡◌, ◌≢◌, ◌≤◌, ◌<◌, ◌⊎◌, inl, inr, ℕ, List, [], ◌++◌, length, length-append, append-nil, true, false, None, Some, Ok, Err, refl, sym, ap, subst, arith, Result, IsErr, IsErrAnd}
+use Rattle.std.proofs.Common.{IsOk, ◌≡◌, ◌≢◌, ◌≤◌, ◌<◌, ◌⊎◌, inl, inr, ℕ, List, [], ◌++◌, length, append-nil, true, false, None, Some, Ok, Err, refl, sym, ap, subst, arith, Result, IsErr, IsErrAnd}
 use Rattle.std.specs.declared.option.Option.{Option}
 use Rattle.std.specs.Io.KnownBytes.{Appends}
 use Rattle.lift_base.specs.Outside.{Rose, AppendsFront, TakenHas, Wrote}
@@ -28,7 +28,8 @@ use Rattle.plift_words.specs.Query.{query_bound, query_from, is_reported}
 use Rattle.plift_top.specs.RightReport.{version_of}
 use Rattle.plift_words.specs.declared.query.Query.{Query}
 use Rattle.plift_words.specs.declared.query.Query.TheVariants as query
-use Rattle.plift_top.specs.Verify.{WasRead, IsAnswered, IsAnswerable, Reports, IsRefused, KeepsWithin, lacks_chain}
+use Rattle.plift_top.specs.Reads.{Command, KeepsWithin, Reads, WasRead}
+use Rattle.plift_top.specs.Verify.{IsAnswered, IsAnswerable, Reports, IsRefused, Refuses, verifying, lacks_chain}
 use Rattle.cert_text.specs.Forms.{IsReportedBound}
 use Rattle.cert_check.specs.Sound.{IsSoundFile, leaf_counts}
 use Rattle.cert_check.specs.Answer.{Answers}
@@ -38,11 +39,11 @@ use Rattle.line_text.specs.Found.{WasFound}
 use Rattle.cert_check.specs.declared.summary.Summary.{Summary}
 use Rattle.cert_check.specs.declared.error.CheckError.{CheckError}
 use Rattle.plift_top.specs.Laws.{RightReportsAreSound, LumpedReportsAreSound}
-use Rattle.plift_top.specs.Check.{IsFoundSound, IsUnsound}
-use Rattle.plift_top.specs.Migrate.{IsMigrated, IsRefusedFirst, IsSoundFirst, IsUnsoundFirst}
+use Rattle.plift_top.specs.Check.{IsFoundSound, IsUnsound, IsFaulty, checking}
+use Rattle.plift_top.specs.Migrate.{IsMigrated, IsRefusedFirst, RefusesFirst, IsSoundFirst, IsUnsoundFirst, migrating}
 use Rattle.cert_text.specs.Head.{HeadData}
 use Rattle.cert_text.specs.Laws.{TextsTellOneReport}
-use Rattle.plift_top.specs.Refine.{IsSoundText, LacksDepth, IsRefusedDeeper, deeper_head, IsFitting, IsRefinedTo, RefinesRight}
+use Rattle.plift_top.specs.Refine.{IsSoundText, LacksDepth, IsRefusedDeeper, deeper_head, IsFitting, IsRefinedTo, RefinesRight, refining}
 use Rattle.plift_top.proofs.Refused.{unsound_text, unsound_status, refines_right, fitting_refused, lacking_done, lacking_status, wide_done, wide_status}
 use Rattle.plift_top.specs.Selftest.{one_half, IsLadderTree, ladder_report, tested_line, IsTestedTree, HasLongReport, TellsTested, Selftests}
 use Rattle.plift_top.specs.Answers.{Acts, Generates, wanted, AsksToVerify, AsksToCheck, AsksToMigrate, AsksToRefine, AsksToGenerate, AsksToSelftest, IsTooLong, limit_of, WroteNote, IsNoted, HasNote, status_of, answered, note_of}
@@ -52,6 +53,7 @@ use Rattle.plift_top.specs.declared.refusal.Refusal.{Refusal}
 use Rattle.plift_top.specs.declared.refusal.Refusal.TheVariants as refusal
 use Rattle.plift_top.proofs.Asked.{ok_same, verified_of, as_read}
 use Rattle.plift_top.proofs.Reading.{read_as, short, given}
+use Rattle.plift_top.proofs.Errors.{at_error, faultless}
 use Rattle.plift_top.specs.Lumped.{lumped_case}
 use Rattle.plift_top.proofs.Refusals.{never_refused, one_status, rows_status}
 use Rattle.plift_top.proofs.Lumping.{not_wide}
@@ -63,10 +65,6 @@ never_done (refusal.Usage f) e = absurd (cc)
 never_done refusal.Memory e = absurd (cc)
 never_done _ e = absurd (cc)
 
--- a sound file has no first fault
-faulty : SoundFilesPass → AnswersAreOne → (bytes : List ℕ) (leaves : Summary) (error : CheckError) → IsSoundFile bytes leaves → Answers bytes (Err error) → ⊥
-faulty pass one bytes leaves error file is = (let same = one bytes (Ok leaves) (Err error) (pass bytes leaves file) is in absurd (cc))
-
 -- what holds whatever may follow follows from what is known of it
 found_as : {P Q : List ℕ → Type 0} {limit : ℕ} {old new : Option (List ℕ)} → ((bytes : List ℕ) → P bytes → Q bytes) → WasFound limit P old new → WasFound limit Q old new
 found_as f h = record { bytes = h.bytes; consumed = h.consumed; small = h.small; ended = h.ended; finished = h.finished; has = λ later may. f (h.bytes ++ later) (h.has later may) }
@@ -75,11 +73,6 @@ found_as f h = record { bytes = h.bytes; consumed = h.consumed; small = h.small;
 found_of : (P : List ℕ → Type 0) (limit : ℕ) (bytes : List ℕ) (new : Option (List ℕ)) → WasFound limit P (Some bytes) new → P bytes
 found_of P limit bytes None h = absurd h.consumed
 found_of P limit bytes (Some rest) h = subst P (sym h.consumed) (h.has rest h.finished)
-
--- a report that was given isn't too long where it is short
-not_long_report : (bytes : List ℕ) (rest : Option (List ℕ)) → length bytes ≤ report_limit → TakenHas (λ taken. report_limit < length taken) (Some bytes) rest → ⊥
-not_long_report bytes None h long = absurd long.1
-not_long_report bytes (Some ys) h (taken, is, more) = omega (arith, ap length is, length-append taken ys)
 
 -- what is answered is a case
 answered_case : (old new : Option (List ℕ)) (asked : Query) (a : AskedModel) (k : CaseData) → IsAnswered old new asked a k → IsCase k
@@ -111,10 +104,6 @@ reported_soundly law lumped old new j text reported none shown m = by (as_read j
         answered_soundly law lumped old new j.query text j.goal n m.root j.precision read reported shown
         (subst (λ (b : AskedModel). IsAnswered old new j.query b (case_of (cut b) m.root j.precision)) same m.has)
 
-read_soundly : RightReportsAreSound → LumpedReportsAreSound → (old new : Option (List ℕ)) (j : VerifyData) (before after : Option (List ℕ)) → ForSome (query_bound j.query) IsReportedBound → (j.safe ≡ None) × (j.reward ≡ None) → is_reported j.query ≡ true → WasRead (Reports old new j) before after
-    → (report : List ℕ) × (leaves : Summary) × IsSoundFile report leaves × (leaves.version ≡ version_of (query_from j.query)) × Appends old new report
-read_soundly law lumped old new j before after reported none shown w = reported_soundly law lumped old new j w.text reported none shown w.has
-
 module _ {S K : Type 0} (left : S → Option (List ℕ)) (faults : S → ℕ) (taken : K → Option (List ℕ)) (counts : K → ℕ) (source source' : S) (out out' : K) where
   -- an answer to words that ask for a job is one to that job
   pub acted : (asked : Result JobData Field) (job : JobData) (answer : Result (Unit {0}) Refusal) → Acts left faults taken counts asked source source' out out' answer → asked ≡ Ok job → Acts left faults taken counts (Ok job) source source' out out' answer
@@ -144,7 +133,7 @@ module _ {S K : Type 0} (left : S → Option (List ℕ)) (faults : S → ℕ) (t
       → answered answer ≡ status.Done → (j : VerifyData) → AsksToVerify asked j → is_reported j.query ≡ true
       → (report : List ℕ) × (leaves : Summary) × IsSoundFile report leaves × (leaves.version ≡ version_of (query_from j.query)) × Appends (taken out) (taken out') report
   sound law lumped asked (Ok x) a reported whole e j is shown =
-      read_soundly law lumped (taken out) (taken out') j (left source) (left source') (reported refl j is) (whole refl j is shown) shown (acted asked (verify j) (Ok x) a is)
+      (let w = acted asked (verify j) (Ok x) a is in reported_soundly law lumped (taken out) (taken out') j w.text (reported refl j is) (whole refl j is shown) shown w.has)
   sound law lumped asked (Err r) a reported whole e j is shown = absurd (never_done r e)
 
   noted : (asked : Result JobData Field) (r : Refusal) → Acts {T = Unit {0}} left faults taken counts asked source source' out out' (Err r) → HasNote (status_of r) asked (left source) (left source') (note_of r)
@@ -162,6 +151,10 @@ module _ {S K : Type 0} (left : S → Option (List ℕ)) (faults : S → ℕ) (t
   noted (Ok (refine depth)) (refusal.Unsound error) a = (refusal.Unsound error, refl, refl, inr (inr (depth, refl, a.0)))
   noted (Ok (refine depth)) (refusal.Usage f) a = (refusal.Usage f, refl, refl, inr (depth, refl, a.0))
   noted (Ok (refine depth)) (refusal.Rows error) a = (refusal.Rows error, refl, refl, inr (depth, refl, a.0))
+  noted (Ok (verify j)) _ a = absurd a.0.has
+  noted (Ok check) _ a = absurd (a.0.has [] (λ e. refl))
+  noted (Ok migrate) _ a = absurd a.0.has
+  noted (Ok (refine depth)) _ a = absurd a.0.has.3
   noted (Ok _) _ a = absurd a.0
   noted (Err f) (refusal.Usage g) a = (refusal.Usage g, refl, refl, inl (ap (λ f. Err f) (sym a.0)))
   noted (Err f) _ a = absurd a.0
@@ -220,9 +213,10 @@ module _ {S K : Type 0} (left : S → Option (List ℕ)) (faults : S → ℕ) (t
 
   pub not_sound : SoundFilesPass → AnswersAreOne → (asked : Result JobData Field) (answer : Result (Unit {0}) Refusal) → Acts left faults taken counts asked source source' out out' answer → answered answer ≡ status.NotSound
       → (AsksToCheck asked × WasFound report_limit IsUnsound (left source) (left source')) ⊎ ((AsksToMigrate asked × WasRead IsUnsoundFirst (left source) (left source')) ⊎ ((depth : ℕ) × AsksToRefine asked depth × WasRead IsUnsound (left source) (left source')))
-  not_sound pass one (Ok check) (Err (refusal.Unsound error)) a e = inl (refl, found_as (λ bytes is leaves file. faulty pass one bytes leaves error file is) a.0)
+  not_sound pass one (Ok check) (Err (refusal.Unsound error)) a e = inl (refl, found_as (λ bytes is leaves file. faultless pass one bytes leaves error file is) a.0)
   not_sound pass one (Ok migrate) (Err (refusal.Unsound error)) a e = inr (inl (refl, read_as (λ bytes is leaves file. never_migrated pass one bytes leaves error file is) a.0))
-  not_sound pass one (Ok (refine depth)) (Err (refusal.Unsound error)) a e = inr (inr (depth, refl, read_as (λ bytes is leaves file. faulty pass one bytes leaves error file is) a.0))
+  not_sound pass one (Ok (refine depth)) (Err (refusal.Unsound error)) a e = inr (inr (depth, refl, read_as (λ bytes is leaves file. faultless pass one bytes leaves error file is) a.0))
+  not_sound pass one (Ok (verify j)) (Err (refusal.Unsound error)) a e = absurd a.0.has
   not_sound pass one asked (Err (refusal.Unsound error)) a e = absurd a.0
   not_sound pass one asked _ a e = absurd (cc)
 
@@ -312,23 +306,30 @@ module _ {S K : Type 0} (left : S → Option (List ℕ)) (faults : S → ℕ) (t
   within (Ok check) answer a limit e = took_few report_limit answer (left source) (left source') (limit (λ n is. absurd (cc))) e
   within _ answer a limit e = took_few file_limit answer (left source) (left source') (limit (λ n is. absurd (cc))) e
 
+-- what a command came to where its source gave a text that isn't too long, and nothing failed: it is done, or it refuses the text, or memory is wanting
+module _ {S K : Type 0} (left : S → Option (List ℕ)) (faults : S → ℕ) (taken : K → Option (List ℕ)) (counts : K → ℕ) (source source' : S) (out out' : K) (sure1 : NoFault (faults source) (faults source')) (sure2 : NoFault (counts out) (counts out')) where
+  by_command : (c : Command) (tells : (P : List ℕ → Type 0) (text : List ℕ) (rest : Option (List ℕ)) → c.Knows P (Some text) rest → P text) (text : List ℕ) → left source ≡ Some text → length text ≤ c.limit
+      → (Q : Status → Type 0) → (c.Done (taken out) (taken out') text → Q status.Done) → ((why : Refusal) → c.Refuses why text → Q (status_of why)) → Q status.Memory
+      → (answer : Result (Unit {0}) Refusal) → Reads left faults taken counts c source source' out out' answer → Q (answered answer)
+  by_command c tells text reported len Q done refused memory (Ok x) a = done (given (c.Done (taken out) (taken out')) text (left source') (rw reported at a))
+  by_command c tells text reported len Q done refused memory (Err refusal.ReadFault) a = absurd (sure1 a.0)
+  by_command c tells text reported len Q done refused memory (Err refusal.WriteFault) a = absurd (sure2 a.1)
+  by_command c tells text reported len Q done refused memory (Err refusal.TooLong) a = absurd (short c.limit text (left source') len (rw reported at a.0))
+  by_command c tells text reported len Q done refused memory (Err refusal.Memory) a = memory
+  by_command c tells text reported len Q done refused memory (Err why) a = refused why (tells (c.Refuses why) text (left source') (rw reported at a.0))
+
 -- where a text was given and nothing failed
 module _ {S K : Type 0} (left : S → Option (List ℕ)) (faults : S → ℕ) (taken : K → Option (List ℕ)) (counts : K → ℕ) (source source' : S) (out out' : K) (j : VerifyData) (text : List ℕ) (reported : left source ≡ Some text)
     (len : length text ≤ file_limit) (sure1 : NoFault (faults source) (faults source')) (sure2 : NoFault (counts out) (counts out')) where
-  -- an answer is one to the report of the job, or to what refuses it at its text, or for want of memory
   by_answer : (Q : Status → Type 0) → (Reports (taken out) (taken out') j text → Q status.Done) → ((why : Refusal) → IsRefused j why text → Q (status_of why)) → Q status.Memory
       → (asked : Result JobData Field) (answer : Result (Unit {0}) Refusal) → Acts left faults taken counts asked source source' out out' answer → AsksToVerify asked j → Q (answered answer)
-  by_answer Q done refused memory asked answer a is = by answer (acted left faults taken counts source source' out out' asked (verify j) answer a is)
+  by_answer Q done refused memory asked answer a is =
+      by_command left faults taken counts source source' out out' sure1 sure2 (verifying j) given text reported len Q done by memory answer (acted left faults taken counts source source' out out' asked (verify j) answer a is)
     where
-      by : (answer : Result (Unit {0}) Refusal) → Acts left faults taken counts (Ok (verify j)) source source' out out' answer → Q (answered answer)
-      by (Ok x) a = done (given (Reports (taken out) (taken out') j) text (left source') (rw reported at a))
-      by (Err refusal.ReadFault) a = absurd (sure1 a.0)
-      by (Err refusal.WriteFault) a = absurd (sure2 a.1)
-      by (Err refusal.TooLong) a = absurd (short text (left source') len (rw reported at a.0))
-      by (Err refusal.Memory) a = memory
-      by (Err (refusal.Usage field)) a = absurd a.0
-      by (Err (refusal.Unsound error)) a = absurd a.0
-      by (Err r) a = refused r (given (IsRefused j r) text (left source') (rw reported at a.0))
+      by : (why : Refusal) → Refuses j why text → Q (status_of why)
+      by (refusal.Usage f) h = absurd h
+      by (refusal.Unsound error) h = absurd h
+      by why h = refused why h
 
   module _ (none : AdmittedHasNoFault) where
     -- a job whose model is admitted over its region is done, but for want of memory
@@ -368,25 +369,20 @@ module _ {S K : Type 0} (left : S → Option (List ℕ)) (faults : S → ℕ) (t
 -- where a check was asked for, bytes were given and nothing failed
 module _ {S K : Type 0} (left : S → Option (List ℕ)) (faults : S → ℕ) (taken : K → Option (List ℕ)) (counts : K → ℕ) (source source' : S) (out out' : K) (bytes : List ℕ) (reported : left source ≡ Some bytes)
     (len : length bytes ≤ report_limit) (sure1 : NoFault (faults source) (faults source')) (sure2 : NoFault (counts out) (counts out')) where
-  -- an answer is that the bytes are sound, or their first fault, or for want of memory
   by_check : (Q : Status → Type 0) → (IsFoundSound (taken out) (taken out') bytes → Q status.Done) → ((error : CheckError) → Answers bytes (Err error) → Q status.NotSound) → Q status.Memory
       → (asked : Result JobData Field) (answer : Result (Unit {0}) Refusal) → Acts left faults taken counts asked source source' out out' answer → AsksToCheck asked → Q (answered answer)
-  by_check Q sound faulty memory asked answer a is = by answer (acted left faults taken counts source source' out out' asked check answer a is)
+  by_check Q sound faulty memory asked answer a is =
+      by_command left faults taken counts source source' out out' sure1 sure2 checking (λ P text rest. found_of P report_limit text rest) bytes reported len Q sound by memory answer (acted left faults taken counts source source' out out' asked check answer a is)
     where
-      by : (answer : Result (Unit {0}) Refusal) → Acts left faults taken counts (Ok check) source source' out out' answer → Q (answered answer)
-      by (Ok x) a = sound (given (IsFoundSound (taken out) (taken out')) bytes (left source') (rw reported at a))
-      by (Err refusal.ReadFault) a = absurd (sure1 a.0)
-      by (Err refusal.WriteFault) a = absurd (sure2 a.1)
-      by (Err refusal.TooLong) a = absurd (not_long_report bytes (left source') len (rw reported at a.0))
-      by (Err refusal.Memory) a = memory
-      by (Err (refusal.Unsound error)) a = faulty error (found_of (λ bytes. Answers bytes (Err error)) report_limit bytes (left source') (rw reported at a.0))
-      by (Err _) a = absurd a.0
+      by : (why : Refusal) → IsFaulty why bytes → Q (status_of why)
+      by (refusal.Unsound error) h = faulty error h
+      by _ h = absurd h
 
   -- a sound file is found so, but for want of memory
   pub check_complete : SoundFilesPass → AnswersAreOne → (asked : Result JobData Field) (answer : Result (Unit {0}) Refusal) → Acts left faults taken counts asked source source' out out' answer → AsksToCheck asked
       → (leaves : Summary) → IsSoundFile bytes leaves → (answered answer ≡ status.Done) ⊎ (answered answer ≡ status.Memory)
   check_complete pass one asked answer a is leaves file =
-      by_check (λ (s : Status). (s ≡ status.Done) ⊎ (s ≡ status.Memory)) (λ h. inl refl) (λ error h. absurd (faulty pass one bytes leaves error file h)) (inr refl) asked answer a is
+      by_check (λ (s : Status). (s ≡ status.Done) ⊎ (s ≡ status.Memory)) (λ h. inl refl) (λ error h. absurd (faultless pass one bytes leaves error file h)) (inr refl) asked answer a is
 
   -- and so is one that isn't
   pub check_refused : (asked : Result JobData Field) (answer : Result (Unit {0}) Refusal) → Acts left faults taken counts asked source source' out out' answer → AsksToCheck asked
@@ -397,19 +393,14 @@ module _ {S K : Type 0} (left : S → Option (List ℕ)) (faults : S → ℕ) (t
 -- where a report was to be migrated, bytes were given and nothing failed
 module _ {S K : Type 0} (left : S → Option (List ℕ)) (faults : S → ℕ) (taken : K → Option (List ℕ)) (counts : K → ℕ) (source source' : S) (out out' : K) (bytes : List ℕ) (reported : left source ≡ Some bytes)
     (len : length bytes ≤ file_limit) (sure1 : NoFault (faults source) (faults source')) (sure2 : NoFault (counts out) (counts out')) where
-  -- an answer is that the bytes are sound, or why they aren't, or for want of memory
   by_migrate : (Q : Status → Type 0) → (IsMigrated (Appends (taken out) (taken out')) bytes → Q status.Done) → ((error : CheckError) → IsRefusedFirst error bytes → Q status.NotSound) → Q status.Memory
       → (asked : Result JobData Field) (answer : Result (Unit {0}) Refusal) → Acts left faults taken counts asked source source' out out' answer → AsksToMigrate asked → Q (answered answer)
-  by_migrate Q sound refused memory asked answer a is = by answer (acted left faults taken counts source source' out out' asked migrate answer a is)
+  by_migrate Q sound refused memory asked answer a is =
+      by_command left faults taken counts source source' out out' sure1 sure2 migrating given bytes reported len Q sound by memory answer (acted left faults taken counts source source' out out' asked migrate answer a is)
     where
-      by : (answer : Result (Unit {0}) Refusal) → Acts left faults taken counts (Ok migrate) source source' out out' answer → Q (answered answer)
-      by (Ok x) a = sound (given (IsMigrated (Appends (taken out) (taken out'))) bytes (left source') (rw reported at a))
-      by (Err refusal.ReadFault) a = absurd (sure1 a.0)
-      by (Err refusal.WriteFault) a = absurd (sure2 a.1)
-      by (Err refusal.TooLong) a = absurd (short bytes (left source') len (rw reported at a.0))
-      by (Err refusal.Memory) a = memory
-      by (Err (refusal.Unsound error)) a = refused error (given (IsRefusedFirst error) bytes (left source') (rw reported at a.0))
-      by (Err _) a = absurd a.0
+      by : (why : Refusal) → RefusesFirst why bytes → Q (status_of why)
+      by (refusal.Unsound error) h = refused error h
+      by _ h = absurd h
 
   -- a sound file of the first version is migrated, but for want of memory
   pub migrate_complete : SoundFilesPass → AnswersAreOne → (asked : Result JobData Field) (answer : Result (Unit {0}) Refusal) → Acts left faults taken counts asked source source' out out' answer → AsksToMigrate asked
@@ -432,21 +423,10 @@ module _ {S K : Type 0} (left : S → Option (List ℕ)) (faults : S → ℕ) (t
   refined_right one asked answer a e depth is = read_as (λ bytes h. refines_right one (taken out) (taken out') depth bytes h) (done left faults taken counts source source' out out' asked (refine depth) answer a e is)
 
   module _ (depth : ℕ) (bytes : List ℕ) (reported : left source ≡ Some bytes) (len : length bytes ≤ file_limit) (sure1 : NoFault (faults source) (faults source')) (sure2 : NoFault (counts out) (counts out')) where
-    -- an answer is one to the report that goes on, or to what refuses it, or for want of memory
     by_refine : (Q : Status → Type 0) → (IsRefinedTo (taken out) (taken out') depth bytes → Q status.Done) → ((why : Refusal) → IsRefusedDeeper depth why bytes → Q (status_of why)) → Q status.Memory
         → (asked : Result JobData Field) (answer : Result (Unit {0}) Refusal) → Acts left faults taken counts asked source source' out out' answer → AsksToRefine asked depth → Q (answered answer)
-    by_refine Q done refused memory asked answer a is = by answer (acted left faults taken counts source source' out out' asked (refine depth) answer a is)
-      where
-        by : (answer : Result (Unit {0}) Refusal) → Acts left faults taken counts (Ok (refine depth)) source source' out out' answer → Q (answered answer)
-        by (Ok x) a = done (given (IsRefinedTo (taken out) (taken out') depth) bytes (left source') (rw reported at a))
-        by (Err refusal.ReadFault) a = absurd (sure1 a.0)
-        by (Err refusal.WriteFault) a = absurd (sure2 a.1)
-        by (Err refusal.TooLong) a = absurd (short bytes (left source') len (rw reported at a.0))
-        by (Err refusal.Memory) a = memory
-        by (Err (refusal.Unsound error)) a = refused (refusal.Unsound error) (given (IsRefusedDeeper depth (refusal.Unsound error)) bytes (left source') (rw reported at a.0))
-        by (Err (refusal.Usage f)) a = refused (refusal.Usage f) (given (IsRefusedDeeper depth (refusal.Usage f)) bytes (left source') (rw reported at a.0))
-        by (Err (refusal.Rows error)) a = refused (refusal.Rows error) (given (IsRefusedDeeper depth (refusal.Rows error)) bytes (left source') (rw reported at a.0))
-        by (Err _) a = absurd a.0
+    by_refine Q done refused memory asked answer a is =
+        by_command left faults taken counts source source' out out' sure1 sure2 (refining depth) given bytes reported len Q done refused memory answer (acted left faults taken counts source source' out out' asked (refine depth) answer a is)
 
     -- a report that isn't sound is refused as such
     pub refine_unsound : (asked : Result JobData Field) (answer : Result (Unit {0}) Refusal) → Acts left faults taken counts asked source source' out out' answer → AsksToRefine asked depth
@@ -484,9 +464,11 @@ written taken faults old new (Err e) note w = record { part = w.part; whole = λ
 
 -- a refusal of the words comes before any byte is taken
 pub line_limit : (limit : ℕ) (error : WordsError) (result : Result (Unit {0}) Refusal) (left : Option (List ℕ)) → IsErrAnd result (λ e. e ≡ words_refusal error) → KeepsWithin limit result left left
-line_limit limit error (Ok x) left is = absurd is
-line_limit limit (words.Usage f) (Err e) left is = subst (λ (r : Refusal). KeepsWithin {T = Unit {0}} limit (Err r) left left) (sym is) (untouched limit left)
-line_limit limit words.Memory (Err e) left is = subst (λ (r : Refusal). KeepsWithin {T = Unit {0}} limit (Err r) left left) (sym is) (untouched limit left)
+line_limit limit error result left is = at_error (λ r. KeepsWithin limit r left left) (words_refusal error) result is (by error)
+  where
+    by : (error : WordsError) → KeepsWithin {T = Unit {0}} limit (Err (words_refusal error)) left left
+    by (words.Usage f) = untouched limit left
+    by words.Memory = untouched limit left
 
 -- a ladder is written before any byte is taken
 pub ladder_limit : {K : Type 0} (limit : ℕ) (taken : K → Option (List ℕ)) (counts : K → ℕ) (blocks : ℕ) (out out' : K) (result : Result (Unit {0}) Refusal) (left : Option (List ℕ)) → Generates taken counts blocks out out' result → KeepsWithin limit result left left

@@ -17,6 +17,7 @@ use Rattle.plift_top.specs.Steps.{IsModelOf, IsTextFault, without_costs}
 use Rattle.plift_top.specs.declared.costed.CostedModel.{CostedModel}
 use Rattle.plift_top.specs.declared.refusal.Refusal.{Refusal}
 use Rattle.plift_top.specs.declared.refusal.Refusal.TheVariants as refusal
+use Rattle.plift_top.proofs.Errors.{at_error}
 
 -- what comes to two values comes to one
 pub ok_same : {A E : Type 0} (r : Result A E) (a b : A) → r ≡ Ok a → r ≡ Ok b → a ≡ b
@@ -39,8 +40,7 @@ text_fault right line cause.Memory h = tt
 text_fault right line _ h = h (λ e. absurd (cc))
 
 pub faulty : {A T : Type 0} (right : Result A DrnError) (error : DrnError) (result : Result T Refusal) → IsErrAnd result (λ e. e ≡ model_refusal error) → (error.cause ≢ cause.Memory → right ≡ Err error) → IfErr result (IsTextFault right)
-faulty right error (Ok x) is h = absurd is
-faulty right error (Err e) is h = subst (IsTextFault right) (sym is) (text_fault right error.line error.cause h)
+faulty right error result is h = at_error (λ r. IfErr r (IsTextFault right)) (model_refusal error) result is (text_fault right error.line error.cause h)
 
 -- a fault stays one in what follows
 fault_after : {A B : Type 0} (right : Result A DrnError) (f : A → Result B DrnError) (why : Refusal) → IsTextFault right why → IsTextFault (right >>= f) why
@@ -120,9 +120,3 @@ module _ (job : VerifyData) (text : List ℕ) where
 
 pub read_uncut : (job : VerifyData) (text : List ℕ) (m : ModelData) → job.reward ≡ None → job.safe ≡ None → drn text job.goal ≡ Ok m → asked_model job text ≡ Ok (uncut m)
 read_uncut job text m free none read = read_uncut_by job text free m read none
-
--- ---- the refusal of a failed call
-
-pub same_fault : {A T : Type 0} (right : Result A DrnError) (why : Refusal) (result : Result T Refusal) → IsErrAnd result (λ e. e ≡ why) → IsTextFault right why → IfErr result (IsTextFault right)
-same_fault right why (Ok x) is h = absurd is
-same_fault right why (Err e) is h = subst (IsTextFault right) (sym is) h

@@ -1,10 +1,8 @@
 -- What a text for a budget is, piece by piece, and what its leaves say.
-use Rattle.std.proofs.Common.{◌≡◌, ◌≤◌, ◌<◌, ◌+◌, ℕ, zero, suc, List, [], ◌∷◌, ◌++◌, map, drop, codes, Some, refl, sym, ap, ◌∙◌, subst, arith, add-one, append_assoc, Option, length}
+use Rattle.std.proofs.Common.{◌≡◌, ◌≤◌, ◌<◌, ◌+◌, ℕ, zero, suc, List, [], ◌∷◌, ◌++◌, map, drop, codes, Some, refl, sym, ap, ◌∙◌, arith, add-one, append_assoc, length}
 use Rattle.std.specs.Prelude.{All, ℤ, pos, unsigned_abs, slice_index_or}
 use Rattle.std.specs.List.{concat, flat_map}
 use Prim.Native.Char.{code}
-use Rattle.lift_base.specs.Outside.{WroteSome}
-use Rattle.lift_base.specs.Laws.{Written}
 use Rattle.lift_grid.specs.Rectangle.{Spans}
 use Rattle.lift_grid.specs.Laws.{TreesTile}
 use Rattle.corner_lift.specs.Case.{CaseData, IsCase}
@@ -14,13 +12,13 @@ use Rattle.lift_walk.specs.Sides.{IsAtDepth}
 use Rattle.lift_costs.specs.Costs.{CostData, IsCost, cost_of, no_cost}
 use Rattle.lift_cost.specs.Decided.{AskedCost, DecidesCost, IsOpenCost}
 use Rattle.lift_cost.specs.Laws.{CertificatesBoundCosts}
-use Rattle.lift_cost.specs.Text.{tree_text}
-use Rattle.lift_cost.specs.declared.question.Budget.{Budget}
+use Rattle.lift_cost.specs.Text.{tree_text, IsTreeText}
 use Rattle.cert_text.specs.Report.{line, spaced}
-use Rattle.plift_top.specs.Asked.{AskedModel}
-use Rattle.plift_top.specs.Cost.{asked_cost, fraction_word, cost_word, cost_head, cost_question, IsCostText, CostPartHolds}
-use Rattle.plift_top.specs.Steps.{IsTestedCase, WritesCase}
-use Rattle.plift_top.proofs.Parts.{written_by}
+use Rattle.plift_top.specs.Cost.{fraction_word, cost_word, cost_head, cost_question, CostPartHolds}
+use Rattle.plift_top.specs.Heads.{IsHeaded}
+use Rattle.plift_top.specs.Steps.{IsTestedCase}
+use Rattle.plift_top.proofs.Parts.{tells}
+use Rattle.plift_top.proofs.Telling.{Tells}
 
 -- ---- the line of the costs
 
@@ -50,19 +48,8 @@ leaf_holds : CertificatesBoundCosts → (k : CaseData) (q : AskedCost) → IsCas
     → CostPartHolds k q (record { spans = spans; leaf = Some z })
 leaf_holds bounds k q case costs cap spans depth z at r = bounds k spans q.costs q.cap q.budget z case at.inside costs cap (record { priced = r.0.priced; limit = r.1 })
 
--- what is said of a case's text for what is asked
-reported_by : CertificatesBoundCosts → RootIsAtDepth → HalvesAreDeeper → TreesTile → LiveHasSpan
-    → {K : Type 0} (taken : K → Option (List ℕ)) (faults : K → ℕ) (k : CaseData) (old new : K) (result : Written) → IsTestedCase k → (q : AskedCost) → All IsCost q.costs → 1 ≤ q.cap
-    → WroteSome (IsCostText k q) taken faults old new result → WritesCase taken faults k (cost_question k q) old new result
-reported_by bounds root deeper tile live taken faults k old new result case q costs some w =
-    written_by root deeper tile live (DecidesCost k q) (IsOpenCost k q) k case (CostPartHolds k q) (concat (cost_head k q)) tree_text
-    (leaf_holds bounds k q case.case costs some) (λ spans undecided. undecided) taken faults old new result w
-
--- the same by what was asked
-pub reported_paid : CertificatesBoundCosts → RootIsAtDepth → HalvesAreDeeper → TreesTile → LiveHasSpan
-    → {K : Type 0} (taken : K → Option (List ℕ)) (faults : K → ℕ) (k : CaseData) (costs : List CostData) (cap : ℕ) (budget : Budget) (old new : K) (result : Written) → IsTestedCase k → All IsCost costs → 1 ≤ cap
-    → WroteSome (IsCostText k (record { costs = costs; cap = cap; budget = record { num = budget.num; den = budget.den } })) taken faults old new result → (a : AskedModel) → costs ≡ a.costs
-    → WritesCase taken faults k (cost_question k (asked_cost (record { cap = cap; budget = budget }) a)) old new result
-reported_paid bounds root deeper tile live taken faults k costs cap budget old new result case valid some w a paid =
-    reported_by bounds root deeper tile live taken faults k old new result case (asked_cost (record { cap = cap; budget = budget }) a) (subst (All IsCost) paid valid) some
-    (subst (λ (c : List CostData). WroteSome (IsCostText k (record { costs = c; cap = cap; budget = record { num = budget.num; den = budget.den } })) taken faults old new result) paid w)
+-- the text tells what is asked
+pub tells_cost : CertificatesBoundCosts → RootIsAtDepth → HalvesAreDeeper → TreesTile → LiveHasSpan → (k : CaseData) (q : AskedCost) → IsTestedCase k → All IsCost q.costs → 1 ≤ q.cap
+    → Tells k (cost_question k q) (IsHeaded (concat (cost_head k q)) (IsTreeText k q k.root 0))
+tells_cost bounds root deeper tile live k q case costs some =
+    tells root deeper tile live (DecidesCost k q) (IsOpenCost k q) k case (CostPartHolds k q) (concat (cost_head k q)) tree_text (leaf_holds bounds k q case.case costs some) (λ spans undecided. undecided)

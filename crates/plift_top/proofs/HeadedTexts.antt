@@ -1,5 +1,5 @@
 -- Texts of a case that begin with a head, piece by piece.
-use Rattle.std.proofs.Common.{◌≡◌, ◌+◌, ℕ, List, [], ◌∷◌, ◌++◌, refl, sym, ap, ap₂, ◌∙◌, subst, arith, Option, Result, Ok, Err, IsErr, append-nil}
+use Rattle.std.proofs.Common.{◌≡◌, ◌+◌, ℕ, List, [], ◌∷◌, ◌++◌, refl, sym, ap, ap₂, ◌∙◌, subst, arith, Option, Result, Ok, Err, IsErr, IsErrAnd, append-nil}
 use Rattle.std.specs.List.{concat}
 use Rattle.std.specs.Io.KnownBytes.{Appends}
 use Rattle.std.proofs.KnownBytes.{Appends-trans}
@@ -8,7 +8,11 @@ use Rattle.lift_base.specs.Outside.{Rose, AppendsFront, Wrote, WroteSome}
 use Rattle.lift_model.specs.Model.{ModelData}
 use Rattle.corner_lift.specs.Case.{CaseData}
 use Rattle.cert_text.specs.Report.{model_lines, box_line}
-use Rattle.plift_top.specs.Heads.{fineness_lines, head_of}
+use Rattle.plift_top.specs.Heads.{IsHeaded, fineness_lines, head_of}
+use Rattle.plift_top.specs.Steps.{WritesText}
+use Rattle.plift_top.specs.declared.refusal.Refusal.{Refusal}
+use Rattle.plift_top.specs.declared.refusal.Refusal.TheVariants as refusal
+use Rattle.plift_top.proofs.Errors.{at_error}
 use Rattle.plift_top.proofs.Telling.{front_then, front_of}
 
 -- the parts of a head, one after the other
@@ -23,9 +27,8 @@ head_parts first k asked m e =
     (concat-append (fineness_lines k) (box_line k.root ∷ []) ∙ ap (λ (rest : List ℕ). concat (fineness_lines k) ++ rest) (append-nil (box_line k.root)))))
 
 module _ {K : Type 0} (head : List ℕ) (IsNodes : List ℕ → Type 0) (taken : K → Option (List ℕ)) (faults : K → ℕ) where
-  -- the bytes are those of the head, and of the nodes of a tree
   abbrev IsText : List ℕ → Type 0
-  IsText bytes = (nodes : List ℕ) × IsNodes nodes × (bytes ≡ head ++ nodes)
+  IsText = IsHeaded head IsNodes
 
   -- a text, by its nodes
   by_nodes : (P : List ℕ → Type 0) (bytes : List ℕ) → ((nodes : List ℕ) → IsNodes nodes → P (head ++ nodes)) → IsText bytes → P bytes
@@ -58,3 +61,8 @@ module _ {K : Type 0} (head : List ℕ) (IsNodes : List ℕ → Type 0) (taken :
     cause = subst (λ n. Rose n (faults new)) w.calm nodes.cause;
     later = omega (arith, w.later, nodes.later);
   }
+
+-- a front of a text was written
+pub text_cut : {K T U E : Type 0} (IsText : List ℕ → Type 0) (taken : K → Option (List ℕ)) (counts : K → ℕ) (out out' : K) (fault : E) (result : Result U Refusal) → IsErrAnd result (λ e. e ≡ refusal.WriteFault)
+    → WroteSome {T = T} IsText taken counts out out' (Err fault) → WritesText taken counts IsText out out' result
+text_cut IsText taken counts out out' fault result is w = at_error (WritesText taken counts IsText out out') refusal.WriteFault result is (w.part, w.cause)

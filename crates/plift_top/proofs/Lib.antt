@@ -1,3 +1,4 @@
+pub mod Errors
 pub mod Asked
 pub mod Reading
 pub mod Refusals

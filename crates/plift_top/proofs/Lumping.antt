@@ -1,5 +1,5 @@
 -- What is said of a chain's quotient is said of the chain.
-use Rattle.std.proofs.Common.{◌≡◌, ◌⊎◌, inl, inr, ℕ, zero, suc, ◌-◌, ◌*◌, ◌^◌, ◌<◌, ◌≤◌, List, [], length, get_or, false, ℤ, pos, ◌+ℤ◌, ◌*ℤ◌, ◌≤ℤ◌, All, None, Ok, Err, Result, IsErrAnd, refl, sym, ap, ◌∙◌, subst, arith}
+use Rattle.std.proofs.Common.{◌≡◌, ◌⊎◌, inl, inr, ℕ, zero, suc, ◌-◌, ◌*◌, ◌^◌, ◌<◌, ◌≤◌, List, [], length, get_or, ℤ, pos, ◌+ℤ◌, ◌*ℤ◌, ◌≤ℤ◌, All, None, Ok, Err, Result, refl, sym, ap, ◌∙◌, subst, arith}
 use Rattle.std.specs.declared.option.Option.{Option}
 use Rattle.std.proofs.lemmas.List.{get_or_past}
 use Rattle.lift_poly.proofs.Ring.{linear, mul-comm, mul-assoc, mul-le, mul-nonneg, one-mul}
@@ -8,7 +8,7 @@ use Rattle.lift_grid.specs.Rectangle.{Spans}
 use Rattle.lift_grid.specs.Tree.{Tree, Leaf, RejectData}
 use Rattle.lift_grid.specs.Tree.Tree.{accept, reject, unknown, split}
 use Rattle.lift_model.specs.declared.kind.Kind.{Kind}
-use Rattle.lift_model.specs.declared.kind.Kind.TheVariants.{Dtmc, Mdp}
+use Rattle.lift_model.specs.declared.kind.Kind.TheVariants.{Dtmc}
 use Rattle.lift_model.specs.Process.{power}
 use Rattle.lift_model.specs.Reach.{reach}
 use Rattle.lift_model.specs.Model.{ModelData, choices, process_at}
@@ -21,19 +21,15 @@ use Rattle.lift_cert.specs.Bounded.{IsBoundedAt}
 use Rattle.lift_cert.specs.Reached.{IsReachedAt}
 use Rattle.lift_cert.specs.Certificate.{IsBeyond}
 use Rattle.lift_cert.specs.declared.bound.Bound.{Bound}
-use Rattle.lift_lump.specs.Quotient.{block, hold, quotient}
+use Rattle.lift_lump.specs.Quotient.{block, hold}
 use Rattle.lift_lump.specs.LumpedData.{LumpedData}
 use Rattle.lift_lump.specs.Lumped.{IsLumped, IsWide}
 use Rattle.lift_lump.specs.Laws.{ChainsHaveOnePlan, ChainsHaveAPlan, QuotientsAreCases, HasSmallCoefficients}
-use Rattle.lift_lump.specs.declared.error.LumpError.{LumpError}
-use Rattle.lift_lump.specs.declared.error.LumpError.TheVariants as lump
 use Rattle.lift_rows.specs.Laws.{CasesHaveWeights, CasesHaveSums}
 use Rattle.cert_check.specs.Trust.{HoldsInside, LeafHolds}
 use Rattle.plift_words.specs.declared.query.Query.TheVariants as query
 use Rattle.plift_top.specs.Lumped.{lumped_case, IsHeldAt, HoldsOfChain, ChainLeafHolds, BlocksHold, IsLumpedCase}
-use Rattle.plift_top.specs.Verify.{lacks_chain}
-use Rattle.plift_top.specs.Asked.{uncut}
-use Rattle.plift_top.specs.Refused.{lump_refusal}
+use Rattle.plift_top.specs.Asked.{AskedModel}
 use Rattle.plift_top.specs.Steps.{IsTestedCase, AnswersCase}
 use Rattle.plift_top.specs.declared.refusal.Refusal.{Refusal}
 use Rattle.plift_top.specs.declared.refusal.Refusal.TheVariants as refusal
@@ -144,36 +140,20 @@ module _ (plans : ChainsHaveOnePlan) (some : ChainsHaveAPlan) (k : CaseData) (l 
   leaves_say bound leaves h i d lt = (h i d lt, holds_of_chain bound (get_or leaves i d).spans (get_or leaves i d).node (h i d lt))
 
   -- what comes of the quotient answers the chain's case
-  pub of_quotient : {K T : Type 0} (taken : K → Option (List ℕ)) (counts : K → ℕ) (bound : Bound) (out out' : K) (result : Result T Refusal)
-      → AnswersCase taken counts (query.Whole bound None) (uncut (lumped_case k l).model) (lumped_case k l) out out' result → AnswersCase taken counts (query.Lumped bound) (uncut k.model) k out out' result
-  of_quotient taken counts bound out out' (Ok x) h =
+  pub of_quotient : {K T : Type 0} (taken : K → Option (List ℕ)) (counts : K → ℕ) (bound : Bound) (a : AskedModel) (out out' : K) (result : Result T Refusal)
+      → AnswersCase taken counts (query.Whole bound None) a (lumped_case k l) out out' result → AnswersCase taken counts (query.Lumped bound) a k out out' result
+  of_quotient taken counts bound a out out' (Ok x) h =
       (l, is, record { tree = h.tree; fits = h.fits; case = h.case; weights = h.weights; sums = h.sums; right = h.right; tiles = h.tiles; schedulers = leaves_say bound _ h.schedulers; text = h.text })
-  of_quotient taken counts bound out out' (Err refusal.WriteFault) (h, rose) = ((l, is, record { fits = h.fits; case = h.case; weights = h.weights; sums = h.sums; front = h.front }), rose)
-  of_quotient taken counts bound out out' (Err refusal.Memory) h = h
-  of_quotient taken counts bound out out' (Err refusal.TooWide) h = absurd (let e = h.0.0 in cc)
-  of_quotient taken counts bound out out' (Err _) h = absurd h
-
--- the chain wasn't lumped
-pub not_lumped : {K T : Type 0} (taken : K → Option (List ℕ)) (counts : K → ℕ) (bound : Bound) (k : CaseData) → IsCase k → (out : K) (error : LumpError) (result : Result T Refusal) → IsErrAnd result (λ e. e ≡ lump_refusal error)
-    → (error ≡ lump.NotChain → ⊥) → (error ≡ lump.Wide → IsWide k.model) → AnswersCase taken counts (query.Lumped bound) (uncut k.model) k out out result
-not_lumped taken counts bound k case out error (Ok x) e never wide = absurd e
-not_lumped {T = T} taken counts bound k case out error (Err why) e never wide = subst (λ (f : Refusal). AnswersCase {T = T} taken counts (query.Lumped bound) (uncut k.model) k out out (Err f)) (sym e) (by error never wide)
-  where
-    by : (error : LumpError) → (error ≡ lump.NotChain → ⊥) → (error ≡ lump.Wide → IsWide k.model) → AnswersCase {T = T} taken counts (query.Lumped bound) (uncut k.model) k out out (Err (lump_refusal error))
-    by lump.NotChain never wide = absurd (never refl)
-    by lump.Wide never wide = ((refl, case.admitted, wide refl), refl)
-    by lump.Memory never wide = refl
+  of_quotient taken counts bound a out out' (Err refusal.WriteFault) (h, rose) = ((l, is, record { fits = h.fits; case = h.case; weights = h.weights; sums = h.sums; front = h.front }), rose)
+  of_quotient taken counts bound a out out' (Err refusal.Memory) h = h
+  of_quotient taken counts bound a out out' (Err refusal.TooWide) h = absurd (let e = h.0.0 in cc)
+  of_quotient taken counts bound a out out' (Err _) h = absurd h
 
 -- ---- the quotient's case
 
 -- the case that is made of the quotient over the chain's root and grid
 pub same_case : (k : CaseData) (l : LumpedData) (q : ModelData) (grid : Grid) (root : Spans) (w : ℕ) → q ≡ l.model → root ≡ k.root → grid.d ≡ k.d → grid.depth ≡ k.depth → w ≡ k.w → case_of q (region_of (grid, root)) w ≡ lumped_case k l
 same_case k l q grid root w a b c d e = rw (a, b, c, d, e) refl
-
--- where a chain is to be lumped, and there is one
-pub is_chain : (bound : Bound) (kind : Kind) → lacks_chain (query.Lumped bound) kind ≡ false → kind ≡ Dtmc
-is_chain bound Dtmc e = refl
-is_chain bound Mdp e = absurd (cc)
 
 -- in which each row is a distribution
 pub tested_quotient : QuotientsAreCases → CasesHaveWeights → CasesHaveSums → (k : CaseData) (l : LumpedData) (m : ModelData) → IsTestedCase k → k.model.kind ≡ Dtmc → m ≡ k.model → IsLumped m l → HasSmallCoefficients l.model → IsTestedCase (lumped_case k l)

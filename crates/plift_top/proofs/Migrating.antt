@@ -1,11 +1,9 @@
 -- What migrating a report comes to, step by step.
-use Rattle.std.proofs.Common.{◌≡◌, ◌≤◌, inl, inr, ℕ, Bool, true, false, ◌&&◌, List, [], ◌∷◌, ◌++◌, length, take, drop, append_assoc, nat_eq, codes, None, Some, Ok, Err, refl, sym, ap, ap₂, ◌∙◌, subst, arith, Result, IsErrAnd, if◌then◌else◌}
+use Rattle.std.proofs.Common.{◌≡◌, inl, inr, ℕ, false, List, [], ◌∷◌, ◌++◌, drop, append_assoc, nat_eq, codes, None, Some, Ok, Err, refl, sym, ap, ◌∙◌, arith, Result, IsErrAnd, if◌then◌else◌}
 use Rattle.std.specs.declared.option.Option.{Option}
 use Rattle.std.specs.Prelude.{is_some, IfOk, IfErr}
 use Rattle.std.specs.List.{concat, starts_with}
-use Rattle.std.specs.Cmp.Lexicographic.{pointwise}
-use Rattle.std.specs.Io.KnownBytes.{Appends, Consumes, IsAtEnd}
-use Rattle.std.proofs.lemmas.Bool.{eqb-true}
+use Rattle.std.specs.Io.KnownBytes.{Appends}
 use Rattle.lift_base.specs.Outside.{AppendsFront, Wrote, WroteSome}
 use Rattle.cert_text.specs.Report.{line, version_words, head_lines, tree_lines, report_text}
 use Rattle.cert_text.specs.Migrated.{MigratesTo}
@@ -13,36 +11,17 @@ use Rattle.cert_check.specs.Sound.{IsSoundFile}
 use Rattle.cert_check.specs.Answer.{Answers}
 use Rattle.cert_check.specs.Laws.{AnswersAreOne, SoundFilesMigrate, SoundFilesPass}
 use Rattle.cert_check.specs.Shown.{IsReportedOfFile, Says}
-use Rattle.cert_check.specs.Source.{file_limit}
 use Rattle.cert_check.specs.declared.summary.Summary.{Summary}
 use Rattle.cert_check.specs.declared.error.CheckError.{CheckError}
 use Rattle.cert_check.specs.declared.error.CheckError.TheVariants as check
 use Rattle.plift_top.specs.Refused.{check_refusal}
-use Rattle.plift_top.specs.Verify.{WasRead, KeepsWithin}
-use Rattle.plift_top.specs.Migrate.{ChecksFirst, IsMigrated, IsRefusedFirst, IsSecond, IsSoundFirst, Migrates, MigratesText}
+use Rattle.plift_top.specs.Reads.{ReadsText}
+use Rattle.plift_top.proofs.Errors.{at_error, faultless}
+use Rattle.plift_top.specs.Migrate.{ChecksFirst, IsMigrated, IsRefusedFirst, IsSecond, IsSoundFirst, migrating}
 use Rattle.plift_top.specs.declared.refusal.Refusal.{Refusal}
 use Rattle.plift_top.specs.declared.refusal.Refusal.TheVariants as refusal
 
 -- ---- the first line
-
-and_first : (a b : Bool) → (a && b) ≡ true → a ≡ true
-and_first true b e = refl
-and_first false b e = absurd cc
-
-and_second : (a b : Bool) → (a && b) ≡ true → b ≡ true
-and_second true b e = e
-and_second false b e = absurd cc
-
-starts : (key text : List ℕ) → pointwise nat_eq key (take (length key) text) ≡ true → (rest : List ℕ) × (text ≡ key ++ rest)
-starts [] text e = (text, refl)
-starts (k ∷ key) [] e = absurd (cc)
-starts (k ∷ key) (b ∷ text) e =
-    let more = starts key text (and_second (nat_eq k b) (pointwise nat_eq key (take (length key) text)) e) in
-    let same : k ≡ b = eqb-true k b (and_first (nat_eq k b) (pointwise nat_eq key (take (length key) text)) e) in
-    (more.0, ap₂ (λ (c : ℕ) (t : List ℕ). c ∷ t) (sym same) more.1)
-
-pub is_second : (text : List ℕ) → starts_with nat_eq text (codes "plift 2\n") ≡ true → IsSecond text
-is_second text e = starts (codes "plift 2\n") text e
 
 pub not_second : (text : List ℕ) → starts_with nat_eq text (codes "plift 2\n") ≡ false → IsSecond text → ⊥
 not_second text e (rest, is) = let same = ap (λ (t : List ℕ). starts_with nat_eq t (codes "plift 2\n")) is in absurd (cc)
@@ -94,7 +73,7 @@ answered_first text (Err _) other file is reported = inr (not_second text other,
 -- a sound file of the first version isn't refused
 pub never_refused : SoundFilesPass → AnswersAreOne → (bytes : List ℕ) (leaves : Summary) (error : CheckError) → IsSoundFirst bytes leaves → IsRefusedFirst error bytes → ⊥
 never_refused pass one bytes leaves error s (inl (second, is)) = not_first bytes leaves s.file second s.first
-never_refused pass one bytes leaves error s (inr (other, answers)) = (let same = one bytes (Ok leaves) (Err error) (pass bytes leaves s.file) answers in absurd (cc))
+never_refused pass one bytes leaves error s (inr (other, answers)) = faultless pass one bytes leaves error s.file answers
 
 -- ---- the text
 
@@ -113,38 +92,18 @@ module _ (migrate : SoundFilesMigrate) (text : List ℕ) where
       record { leaves = leaves; sound = s; new = m.0; same = m.1; file = m.2; took = took m.0 m.1 }
 
   module _ {K : Type 0} (taken : K → Option (List ℕ)) (counts : K → ℕ) (out out' : K) where
-    pub migrated_whole : {T E : Type 0} (x : T) (leaves : Summary) → IsSoundFirst text leaves → WroteSome {E = E} (MigratesTo text) taken counts out out' (Ok x) → MigratesText {T = T} taken counts text out out' (Ok x)
+    pub migrated_whole : {T E : Type 0} (x : T) (leaves : Summary) → IsSoundFirst text leaves → WroteSome {E = E} (MigratesTo text) taken counts out out' (Ok x) → ReadsText {T = T} taken counts migrating text out out' (Ok x)
     migrated_whole x leaves s w = migrated (Appends (taken out) (taken out')) leaves s w.whole
 
-    pub migrated_in_part : {T E : Type 0} (fault : E) (result : Result (Unit {0}) Refusal) (leaves : Summary) → IsErrAnd result (λ e. e ≡ refusal.WriteFault) → IsSoundFirst text leaves → WroteSome {T = T} (MigratesTo text) taken counts out out' (Err fault) → MigratesText taken counts text out out' result
-    migrated_in_part fault (Ok x) leaves is s w = absurd is
-    migrated_in_part fault (Err e) leaves is s w = subst (λ (r : Refusal). MigratesText {T = Unit {0}} taken counts text out out' (Err r)) (sym is) (migrated (AppendsFront (taken out) (taken out')) leaves s w.part, w.cause)
+    pub migrated_in_part : {T E : Type 0} (fault : E) (result : Result (Unit {0}) Refusal) (leaves : Summary) → IsErrAnd result (λ e. e ≡ refusal.WriteFault) → IsSoundFirst text leaves → WroteSome {T = T} (MigratesTo text) taken counts out out' (Err fault) → ReadsText taken counts migrating text out out' result
+    migrated_in_part fault result leaves is s w = at_error (ReadsText taken counts migrating text out out') refusal.WriteFault result is (migrated (AppendsFront (taken out) (taken out')) leaves s w.part, w.cause)
 
-module _ {K : Type 0} (taken : K → Option (List ℕ)) (counts : K → ℕ) (out : K) (text : List ℕ) where
-  stopped_by : (error : CheckError) → ChecksFirst text (Err error) → MigratesText {T = Unit {0}} taken counts text out out (Err (check_refusal error))
-  stopped_by check.Memory h = refl
-  stopped_by check.Fault h = absurd h
-  stopped_by check.TooLong h = absurd h
-  stopped_by _ h = (h, refl)
-
-  -- nothing was written before the check was done
-  pub stopped : (error : CheckError) (result : Result (Unit {0}) Refusal) → IsErrAnd result (λ e. e ≡ check_refusal error) → ChecksFirst text (Err error) → MigratesText taken counts text out out result
-  stopped error (Ok x) is h = absurd is
-  stopped error (Err e) is h = subst (λ (r : Refusal). MigratesText {T = Unit {0}} taken counts text out out (Err r)) (sym is) (stopped_by error h)
-
--- a text that was read whole, and what it comes to
-module _ {S K : Type 0} (left : S → Option (List ℕ)) (faults : S → ℕ) (taken : K → Option (List ℕ)) (counts : K → ℕ) (source source' : S) (out out' : K) (text : List ℕ) (consumed : Consumes (left source) (left source') text) (ended : IsAtEnd (left source')) where
-  was_read : (P : List ℕ → Type 0) → P text → WasRead P (left source) (left source')
-  was_read P h = record { text = text; consumed = consumed; ended = ended; has = h }
-
-  pub migrates : (result : Result (Unit {0}) Refusal) → MigratesText taken counts text out out' result → Migrates left faults taken counts source source' out out' result
-  migrates (Ok x) m = was_read (IsMigrated (Appends (taken out) (taken out'))) m
-  migrates (Err refusal.WriteFault) m = (was_read (IsMigrated (AppendsFront (taken out) (taken out'))) m.0, m.1)
-  migrates (Err refusal.Memory) m = (tt, m)
-  migrates (Err (refusal.Unsound error)) m = (was_read (IsRefusedFirst error) m.0, m.1)
-  migrates (Err _) m = absurd m
-
-  pub migrates_within : (result : Result (Unit {0}) Refusal) → MigratesText taken counts text out out' result → length text ≤ file_limit → KeepsWithin file_limit result (left source) (left source')
-  migrates_within (Ok x) m few = (text, consumed, few)
-  migrates_within (Err refusal.TooLong) m few = absurd m
-  migrates_within (Err _) m few = (text, consumed, few)
+-- nothing was written before the check was done
+pub stopped : {K : Type 0} (taken : K → Option (List ℕ)) (counts : K → ℕ) (out : K) (text : List ℕ) (error : CheckError) (result : Result (Unit {0}) Refusal) → IsErrAnd result (λ e. e ≡ check_refusal error) → ChecksFirst text (Err error) → ReadsText taken counts migrating text out out result
+stopped taken counts out text error result is h = at_error (ReadsText taken counts migrating text out out) (check_refusal error) result is (by error h)
+  where
+    by : (error : CheckError) → ChecksFirst text (Err error) → ReadsText {T = Unit {0}} taken counts migrating text out out (Err (check_refusal error))
+    by check.Memory h = refl
+    by check.Fault h = absurd h
+    by check.TooLong h = absurd h
+    by _ h = (h, refl)

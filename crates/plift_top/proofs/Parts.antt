@@ -1,9 +1,8 @@
 -- The leaves of a right tree of halved rectangles: they tile its rectangle, and what each says holds.
-use Rattle.std.proofs.Common.{◌≡◌, ℕ, ◌+◌, List, [], ◌∷◌, ◌++◌, map, Some, None, Ok, Err, Option, refl, sym, ap, ap₂, ◌∙◌, subst}
+use Rattle.std.proofs.Common.{◌≡◌, ℕ, ◌+◌, List, ◌++◌, map, Some, None, refl, sym, ap₂, ◌∙◌, subst}
 use Rattle.std.specs.Prelude.{All}
+use Rattle.std.proofs.lemmas.List.{map-append}
 use Rattle.std.proofs.lemmas.List.Elements.{All-append}
-use Rattle.lift_base.specs.Outside.{WroteSome}
-use Rattle.lift_base.specs.Laws.{Written}
 use Rattle.lift_grid.specs.Rectangle.{Spans}
 use Rattle.lift_grid.specs.Tree.{Tree, Tiles, HalvesSpans, leaves, lower_half, upper_half}
 use Rattle.lift_grid.specs.Laws.{TreesTile}
@@ -12,14 +11,12 @@ use Rattle.corner_lift.specs.Laws.{LiveHasSpan}
 use Rattle.lift_walk.specs.Halved.{Halved, IsRightBy}
 use Rattle.lift_walk.specs.Laws.{RootIsAtDepth, HalvesAreDeeper}
 use Rattle.lift_walk.specs.Sides.{IsAtDepth}
+use Rattle.plift_top.specs.Heads.{IsHeaded}
 use Rattle.plift_top.specs.Parts.{Part, parts}
 use Rattle.plift_top.specs.Reported.{halved_question}
-use Rattle.plift_top.specs.Steps.{IsTestedCase, WritesCase}
+use Rattle.plift_top.specs.Steps.{IsTestedCase}
 use Rattle.plift_top.proofs.Leaves.{only}
-
-map_append : {A B : Type 0} (f : A → B) (xs ys : List A) → map f (xs ++ ys) ≡ map f xs ++ map f ys
-map_append f [] ys = refl
-map_append f (x ∷ xs) ys = ap (λ (r : List _). f x ∷ r) (map_append f xs ys)
+use Rattle.plift_top.proofs.Telling.{Tells}
 
 module _ {L : Type 0} where
   -- the tree with its leaves left open, which has the same rectangles
@@ -32,9 +29,9 @@ module _ {L : Type 0} where
   same_rectangles spans depth (Halved.split axis lower upper) =
       let low = lower_half axis spans in
       let high = upper_half axis spans in
-      map_append (λ leaf. leaf.spans) (leaves low (depth + 1) (bare lower)) (leaves high (depth + 1) (bare upper))
+      map-append (λ leaf. leaf.spans) (leaves low (depth + 1) (bare lower)) (leaves high (depth + 1) (bare upper))
       ∙ ap₂ (λ (a b : List Spans). a ++ b) (same_rectangles low (depth + 1) lower) (same_rectangles high (depth + 1) upper)
-      ∙ sym (map_append (λ part. part.spans) (parts low lower) (parts high upper))
+      ∙ sym (map-append (λ part. part.spans) (parts low lower) (parts high upper))
   same_rectangles spans depth (Halved.leaf l) = refl
   same_rectangles spans depth Halved.unknown = refl
 
@@ -66,25 +63,15 @@ module _ {L : Type 0} where
     parts_hold P holds undecided spans depth (Halved.leaf l) at r = only P _ (holds spans depth l at r)
     parts_hold P holds undecided spans depth Halved.unknown at r = only P _ (undecided spans r.0)
 
--- what is said of the text of a right tree, behind its head, holds
-pub written_by : {L K : Type 0} → RootIsAtDepth → HalvesAreDeeper → TreesTile → LiveHasSpan → (decides : Spans → L → Type 0) (opens : Spans → Type 0) (k : CaseData) → IsTestedCase k → (P : Part L → Type 0) (head : List ℕ) (text : Halved L → List ℕ)
+-- the text of a right tree, behind its head, tells what is asked
+pub tells : {L : Type 0} → RootIsAtDepth → HalvesAreDeeper → TreesTile → LiveHasSpan → (decides : Spans → L → Type 0) (opens : Spans → Type 0) (k : CaseData) → IsTestedCase k → (P : Part L → Type 0) (head : List ℕ) (text : Halved L → List ℕ)
     → ((spans : Spans) (depth : ℕ) (l : L) → IsAtDepth k depth spans → decides spans l → P (record { spans = spans; leaf = Some l })) → ((spans : Spans) → opens spans → P (record { spans = spans; leaf = None }))
-    → (taken : K → Option (List ℕ)) (faults : K → ℕ) (old new : K) (result : Written)
-    → WroteSome (λ bytes. (nodes : List ℕ) × ((tree : Halved L) × (IsRightBy decides opens k k.root 0 tree × (nodes ≡ text tree))) × (bytes ≡ head ++ nodes)) taken faults old new result
-    → WritesCase taken faults k (halved_question k (λ tree. IsRightBy decides opens k k.root 0 tree) P (λ tree. head ++ text tree)) old new result
-written_by root deeper tile live decides opens k case P head text holds undecided taken faults old new (Ok x) w =
-    let tree = w.some.1.1.0 in
-    let right = w.some.1.1.1.0 in
-    record {
-      tree = tree;
-      fits = tt;
-      case = case.case;
-      weights = case.weights;
-      sums = case.sums;
-      right = right;
-      tiles = parts_tile deeper decides opens k case.case tile live k.root 0 tree (root k case.case) right;
-      schedulers = parts_hold deeper decides opens k case.case P holds undecided k.root 0 tree (root k case.case) right;
-      text = w.whole (head ++ text tree) (text tree, (tree, (right, refl)), refl);
-    }
-written_by root deeper tile live decides opens k case P head text holds undecided taken faults old new (Err e) w =
-    (record { fits = tt; case = case.case; weights = case.weights; sums = case.sums; front = λ tree right. w.part (head ++ text tree) (text tree, (tree, (right, refl)), refl) }, w.cause)
+    → Tells k (halved_question k (λ tree. IsRightBy decides opens k k.root 0 tree) P (λ tree. head ++ text tree)) (IsHeaded head (λ nodes. (tree : Halved L) × (IsRightBy decides opens k k.root 0 tree × (nodes ≡ text tree))))
+tells root deeper tile live decides opens k case P head text holds undecided = record {
+  case = case;
+  fits = tt;
+  tree_of = λ bytes is. (let (nodes, are, e) = is in let (tree, rest) = are in (tree, rest.0));
+  text_of = λ tree right. (text tree, (tree, (right, refl)), refl);
+  tiles = λ tree right. parts_tile deeper decides opens k case.case tile live k.root 0 tree (root k case.case) right;
+  holds = λ tree right. parts_hold deeper decides opens k case.case P holds undecided k.root 0 tree (root k case.case) right;
+}

@@ -1,13 +1,10 @@
 -- Going on from a report: its text as a base, what is written, and what it comes to.
-use Rattle.std.proofs.Common.{◌≡◌, ◌≤◌, ◌+◌, ◌-◌, ◌∙◌, ℕ, List, [], ◌∷◌, ◌++◌, Ok, Err, refl, sym, ap, subst, arith, append-nil, append_assoc, Result, IsErr}
+use Rattle.std.proofs.Common.{◌≡◌, ◌≤◌, ◌+◌, ◌-◌, ◌∙◌, ℕ, List, [], ◌∷◌, ◌++◌, refl, sym, ap, subst, arith, append-nil, append_assoc}
 use Rattle.std.specs.declared.option.Option.{Option}
 use Rattle.std.specs.Prelude.{is_some}
 use Rattle.std.specs.List.{AllByRecursion, concat, flat_map}
-use Rattle.std.specs.Io.KnownBytes.{Appends}
-use Rattle.std.proofs.KnownBytes.{Appends-trans}
 use Rattle.std.proofs.lemmas.Nat.{pow_pos}
 use Rattle.std.proofs.lemmas.List.Folds.{concat-append}
-use Rattle.lift_base.specs.Outside.{Rose, AppendsFront, Wrote, WroteSome}
 use Rattle.lift_grid.specs.Rectangle.{Spans}
 use Rattle.lift_grid.specs.Tree.{Tree, lower_half, upper_half}
 use Rattle.lift_grid.specs.Tree.Tree.{accept, reject, unknown, split}
@@ -17,29 +14,28 @@ use Rattle.lift_cert.specs.declared.bound.Bound.{Bound}
 use Rattle.lower_cert.specs.AnyRanks.{HeightFits}
 use Rattle.lift_finer.specs.Finer.{finer_spans}
 use Rattle.lift_finer.specs.Refined.{IsBase}
+use Rattle.lift_range.specs.Range.{Between}
 use Rattle.lift_refine.specs.Deeper.{deeper_case}
 use Rattle.lift_refine.specs.Laws.{CertifiedTreesAreBases, BasesWithRightTreesAreCertified, RefinedRightTrees}
 use Rattle.region_tree.specs.Bases.{IsGiven, IsRefined, IsOffered, OffersOne, HasPrecisionsTo}
 use Rattle.region_tree.specs.Laws.{RootIsAtDepth}
 use Rattle.region_tree.specs.Nodes.{Node, nodes}
 use Rattle.region_tree.specs.Nodes.Node.{split as split-node, accept as accept-node, reject as reject-node, unknown as unknown-node}
-use Rattle.region_tree.specs.Visits.{Shows, entries}
+use Rattle.region_tree.specs.Visits.{Shows}
 use Rattle.region_tree.specs.declared.base.Given.TheVariants as given
 use Rattle.region_tree.specs.declared.visitor.Seen.{Seen}
-use Rattle.region_tree.specs.declared.visitor.Seen.TheVariants.{Kept, Failed}
 use Rattle.cert_text.specs.Head.{HeadData, least_precision}
 use Rattle.cert_text.specs.Forms.{IsHead, IsNode, IsTree}
-use Rattle.cert_text.specs.Report.{line, version_words, model_lines, asked_lines, from_lines, top_lines, region_lines, head_lines, report_text, split_line, at_lines, accept_line, reject_lines, unknown_line}
+use Rattle.cert_text.specs.Report.{line, version_words, model_lines, asked_lines, from_lines, top_lines, region_lines, head_lines, split_line, at_lines, accept_line, reject_lines, unknown_line}
 use Rattle.cert_text.specs.Nodes as text
 use Rattle.cert_text.specs.Cut.{node_bytes, top_bytes, IsSplitOn, IsAcceptOf, IsRejectOf, IsOpenLeaf}
 use Rattle.cert_check.specs.Sound.{IsSound, IsSoundTree}
 use Rattle.cert_check.specs.Laws.{CanBeReported, SoundTreesAreReports}
 use Rattle.plift_top.specs.Laws.{RefinedReportsAreSound}
 use Rattle.plift_top.specs.RightReport.{node_text}
-use Rattle.plift_top.specs.Refine.{deeper_head, finer_by, IsOldTree, CanGoOn, IsRefinedText, reported_node, IsAhead}
+use Rattle.plift_top.specs.Refine.{deeper_head, finer_by, IsOld, IsOldTree, CanGoOn, reported_node, IsAhead}
 use Rattle.plift_top.proofs.Leaves.{entries_are}
 use Rattle.plift_top.proofs.Soundness.{can_be_reported}
-use Rattle.plift_top.proofs.Telling.{front_of, front_then}
 
 -- ---- the text of a node
 
@@ -114,41 +110,41 @@ module _ (bases : CertifiedTreesAreBases) (roots : RootIsAtDepth) where
       let some : 1 ≤ n = omega (arith, pow_pos (depth - h.asked.depth)) in
       bases h.asked h.asked.root (finer_spans n h.asked.root) n depth h.bound 0 t (old_case h t s) (roots h.asked (old_case h t s)) some le s.tree
 
-  pub offers : (k : CaseData) (bound : Bound) (h : HeadData) (left : List ℕ) → CanGoOn k bound h left → (t : Tree) → IsOldTree h left t → IsOffered (IsAhead h left) k bound k.root 0 t []
-  offers k bound h left can t old =
-      let at_bound = subst (λ (x : CaseData). IsBase x h.bound x.root 0 t) (sym can.deeper) (base_of k.depth h t old.sound can.above) in
-      record {
-        ahead = ahead_of h left t old;
-        base = subst (λ (b : Bound). IsBase k b k.root 0 t) (sym can.bound_is) at_bound;
-        precisions = subst (λ (x : CaseData). HasPrecisionsTo x.w t) (sym can.deeper) (precise h t old.sound.report.nodes);
-      }
+  pub offers : (k : CaseData) (h : HeadData) (left : List ℕ) → CanGoOn k h left → (t : Tree) → IsOldTree h left t → IsOffered (IsAhead h left) k h.bound k.root 0 t []
+  offers k h left can t old = record {
+    ahead = ahead_of h left t old;
+    base = subst (λ (x : CaseData). IsBase x h.bound x.root 0 t) (sym can.deeper) (base_of k.depth h t old.sound can.above);
+    precisions = subst (λ (x : CaseData). HasPrecisionsTo x.w t) (sym can.deeper) (precise h t old.sound.report.nodes);
+  }
 
-  pub offers_one : (k : CaseData) (bound : Bound) (h : HeadData) (left : List ℕ) → CanGoOn k bound h left → OffersOne (IsAhead h left) k bound k.root 0
-  offers_one k bound h left can = (can.old.0, ([], offers k bound h left can can.old.0 can.old.1))
+  pub offers_one : (k : CaseData) (h : HeadData) (left : List ℕ) → CanGoOn k h left → OffersOne (IsAhead h left) k h.bound k.root 0
+  offers_one k h left can = (can.old.0, ([], offers k h left can can.old.0 can.old.1))
 
 -- the nodes of a report have the same text at a greater depth
-pub same_text : (k : CaseData) (bound : Bound) (h : HeadData) (left : List ℕ) (from : Option ℕ) → CanGoOn k bound h left → from ≡ h.from → (n : Node) → node_text h.asked h.from n ≡ node_text k from n
-same_text k bound h left from can is n = by n ∙ ap (λ (f : Option ℕ). node_text k f n) (sym is)
-  where
-    by : (n : Node) → node_text h.asked h.from n ≡ node_text k h.from n
-    by (split-node axis) = refl
-    by (accept-node u x) = refl
-    by (reject-node u r) = ap (λ (x : CaseData). concat (at_lines h.from u) ++ concat (reject_lines x.model.init u r)) (sym can.deeper)
-    by unknown-node = refl
+pub same_text : (k : CaseData) (h : HeadData) (left : List ℕ) → CanGoOn k h left → (n : Node) → node_text h.asked h.from n ≡ node_text k h.from n
+same_text k h left can (split-node axis) = refl
+same_text k h left can (accept-node u x) = refl
+same_text k h left can (reject-node u r) = ap (λ (x : CaseData). concat (at_lines h.from u) ++ concat (reject_lines x.model.init u r)) (sym can.deeper)
+same_text k h left can unknown-node = refl
 
-pub least_between : (k : CaseData) (bound : Bound) (h : HeadData) (left : List ℕ) (v : ℕ) → CanGoOn k bound h left → IsHead h → v ≡ least_precision h → (1 ≤ v) × (v ≤ k.w)
-least_between k bound h left v can is least =
+pub least_between : (k : CaseData) (h : HeadData) (left : List ℕ) → CanGoOn k h left → Between 1 k.w (least_precision h)
+least_between k h left can =
+    let is = can.old.1.sound.report.head in
     let w : k.w ≡ h.asked.w = ap (λ (x : CaseData). x.w) can.deeper in
-    (omega (arith, is.range.0, least), omega (arith, is.range.1, least, w))
+    (is.range.0, omega (arith, is.range.1, w))
 
--- what a walk showed to a reporter went to its sink
-pub shown : {R K : Type 0} (out : R → K) (k : CaseData) (bound : Bound) (t : Tree) (taken : K → Option (List ℕ)) (faults : K → ℕ) (old new : R) (seen : Seen) (v least : ℕ) (reported from : Option ℕ) → v ≡ least → reported ≡ from
-    → Shows {V = R} (λ refined. IsRefined k v bound k.root 0 t refined) (λ r. taken (out r)) (λ r. faults (out r)) (node_text k reported) old new seen
-    → Shows {V = K} (λ refined. IsRefined k least bound k.root 0 t refined) taken faults (node_text k from) (out old) (out new) seen
-shown {R} {K} out k bound t taken faults old new seen v least reported from v_is from_is w =
-    let Is : ℕ → Option ℕ → Type 0 = λ v from. Shows {V = K} (λ refined. IsRefined k v bound k.root 0 t refined) taken faults (node_text k from) (out old) (out new) seen in
-    let here : Is v reported = record { tree = w.tree; took = w.took; cause = w.cause; later = w.later } in
-    subst (λ (f : Option ℕ). Is least f) from_is (subst (λ (u : ℕ). Is u reported) v_is here)
+-- what a walk showed, whichever tree the text has
+pub whichever : {V : Type 0} (taken : V → Option (List ℕ)) (faults : V → ℕ) (k : CaseData) (h : HeadData) (left : List ℕ) (entry : Node → List ℕ) (was now : V) (seen : Seen) → IsOld h left
+    → ((t : Tree) → IsOldTree h left t → Shows (λ refined. IsRefined k (least_precision h) h.bound k.root 0 t refined) taken faults entry was now seen)
+    → Shows (λ refined. (t : Tree) × IsOldTree h left t × IsRefined k (least_precision h) h.bound k.root 0 t refined) taken faults entry was now seen
+whichever taken faults k h left entry was now seen (s, old) each =
+    let first = each s old in
+    record {
+      tree = λ kept. (let r = first.tree kept in (r.0, (s, old, r.1)));
+      took = λ refined h. (let (t, is, r) = h in (each t is).took refined r);
+      cause = first.cause;
+      later = first.later;
+    }
 
 -- ---- the head at a greater depth
 
@@ -168,69 +164,11 @@ top_and_region k from bound =
     ap (λ (ls : List (List ℕ)). line (version_words (is_some from)) ∷ ls) (append_assoc model (asked ++ lines) region ∙ ap (λ (ls : List (List ℕ)). model ++ ls) (append_assoc asked lines region)) in
     sym (concat-append (top_lines k from bound) region) ∙ ap concat joined
 
--- ---- what is written
-
-module _ {K : Type 0} (k : CaseData) (bound : Bound) (h : HeadData) (left : List ℕ) (can : CanGoOn k bound h left) (taken : K → Option (List ℕ)) (faults : K → ℕ) where
-  abbrev pub head : List ℕ
-  head = concat (head_lines k h.from h.bound)
-
-  -- what a walk showed, whichever tree the text has
-  abbrev pub Walked : K → K → Seen → Type 0
-  Walked mid new seen = (t : Tree) → IsOldTree h left t → Shows (λ refined. IsRefined k (least_precision h) bound k.root 0 t refined) taken faults (node_text k h.from) mid new seen
-
-  at_bound : {mid new : K} {seen : Seen} → Walked mid new seen → (t : Tree) → IsOldTree h left t → Shows (λ refined. IsRefined k (least_precision h) h.bound k.root 0 t refined) taken faults (node_text k h.from) mid new seen
-  at_bound {mid} {new} {seen} walked t old = subst (λ (b : Bound). Shows (λ refined. IsRefined k (least_precision h) b k.root 0 t refined) taken faults (node_text k h.from) mid new seen) can.bound_is (walked t old)
-
-  head_wrote : {T E : Type 0} {old new : K} {result : Result T E} → Wrote taken faults old new result (concat (head_lines k h.from bound)) → Wrote taken faults old new result head
-  head_wrote {T} {E} {old} {new} {result} w = subst (λ (b : Bound). Wrote taken faults old new result (concat (head_lines k h.from b))) can.bound_is w
-
-  -- the head at the greater depth: the top of the old one, and the region
-  pub deeper_written : {T E : Type 0} {old new : K} {result : Result T E} (top : List ℕ) → top ≡ top_bytes h → Wrote taken faults old new result (top ++ concat (region_lines k)) → Wrote taken faults old new result (concat (head_lines k h.from bound))
-  deeper_written {T} {E} {old} {new} {result} top is w =
-      let above : concat (top_lines k h.from h.bound) ≡ top_bytes h = ap (λ (x : CaseData). concat (top_lines x h.from h.bound)) can.deeper ∙ ap concat (top_same (finer_by k.depth h) k.depth h) in
-      let same : top ≡ concat (top_lines k h.from bound) = is ∙ sym above ∙ ap (λ (b : Bound). concat (top_lines k h.from b)) (sym can.bound_is) in
-      subst (λ (bytes : List ℕ). Wrote taken faults old new result bytes) (ap (λ (t : List ℕ). t ++ concat (region_lines k)) same ∙ top_and_region k h.from bound) w
-
-  -- the bytes of a report, by its entries
-  by_entries : (P : List ℕ → Type 0) (bytes : List ℕ) → ((t refined : Tree) → IsOldTree h left t → IsRefined k (least_precision h) h.bound k.root 0 t refined → P (head ++ entries (node_text k h.from) refined)) → IsRefinedText k h left bytes → P bytes
-  by_entries P bytes each (t, old, (refined, r, is)) = subst P (ap (λ (l : List ℕ). head ++ l) (entries_are k h.from refined) ∙ sym is) (each t refined old r)
-
-  pub head_failed : {T E U F : Type 0} (old new : K) (e : E) (result : Result U F) → IsErr result → Wrote {T = T} taken faults old new (Err e) (concat (head_lines k h.from bound)) → WroteSome (IsRefinedText k h left) taken faults old new result
-  head_failed old new e (Ok x) bad w = absurd (cc)
-  head_failed old new e (Err f) bad w =
-      let v = head_wrote w in
-      record {
-        some = tt;
-        whole = tt;
-        part = λ bytes. by_entries (AppendsFront (taken old) (taken new)) bytes (λ t refined _ r. front_of (taken old) (taken new) head (entries (node_text k h.from) refined) v.part);
-        cause = v.cause;
-        later = v.later;
-      }
-
-  pub tree_failed : {T E U F : Type 0} (old mid new : K) (x : T) (f : F) → Wrote {E = E} taken faults old mid (Ok x) (concat (head_lines k h.from bound)) → Walked mid new Failed → WroteSome {T = U} (IsRefinedText k h left) taken faults old new (Err f)
-  tree_failed old mid new x f w walked =
-      let v = head_wrote w in
-      let first = at_bound walked can.old.0 can.old.1 in
-      record {
-        some = tt;
-        whole = tt;
-        part = λ bytes. by_entries (AppendsFront (taken old) (taken new)) bytes (λ t refined was r. front_then (taken old) (taken mid) (taken new) head (entries (node_text k h.from) refined) v.whole ((at_bound walked t was).took refined r));
-        cause = subst (λ (n : ℕ). Rose n (faults new)) v.calm (first.cause refl);
-        later = omega (arith, v.later, first.later);
-      }
-
-  pub all_reported : {T E U F : Type 0} (old mid new : K) (x : T) (y : U) → Wrote {E = E} taken faults old mid (Ok x) (concat (head_lines k h.from bound)) → Walked mid new Kept → WroteSome {E = F} (IsRefinedText k h left) taken faults old new (Ok y)
-  all_reported old mid new x y w walked =
-      let v = head_wrote w in
-      let first = at_bound walked can.old.0 can.old.1 in
-      let t = first.tree refl in
-      record {
-        some = (report_text k h.from h.bound t.0, (can.old.0, can.old.1, (t.0, t.1, refl)));
-        whole = λ bytes. by_entries (Appends (taken old) (taken new)) bytes (λ t refined was r. Appends-trans (taken old) (taken mid) (taken new) head (entries (node_text k h.from) refined) v.whole ((at_bound walked t was).took refined r));
-        part = tt;
-        cause = tt;
-        later = omega (arith, v.later, first.later);
-      }
+-- the head of a case that a report is gone on to is its top, and the region
+pub deeper_head_is : (k : CaseData) (h : HeadData) (left : List ℕ) → CanGoOn k h left → top_bytes h ++ concat (region_lines k) ≡ concat (head_lines k h.from h.bound)
+deeper_head_is k h left can =
+    let above : concat (top_lines k h.from h.bound) ≡ top_bytes h = ap (λ (x : CaseData). concat (top_lines x h.from h.bound)) can.deeper ∙ ap concat (top_same (finer_by k.depth h) k.depth h) in
+    ap (λ (t : List ℕ). t ++ concat (region_lines k)) (sym above) ∙ top_and_region k h.from h.bound
 
 -- ---- the laws of a refined tree
 

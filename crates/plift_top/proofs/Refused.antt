@@ -1,5 +1,5 @@
 -- What a report that was read says of an answer to `refine`.
-use Rattle.std.proofs.Common.{◌≡◌, ◌≤◌, ◌<◌, ◌⊎◌, inl, inr, ◌∙◌, ℕ, List, [], ◌++◌, Ok, Err, refl, sym, ap, ap₂, subst, append-nil, arith}
+use Rattle.std.proofs.Common.{◌≡◌, ◌∙◌, ℕ, List, [], Err, refl, sym, subst, append-nil}
 use Rattle.std.specs.declared.option.Option.{Option}
 use Rattle.std.specs.Io.KnownBytes.{Appends}
 use Rattle.lift_grid.specs.Tree.{Tree}
@@ -18,6 +18,7 @@ use Rattle.plift_top.specs.Check.{IsUnsound}
 use Rattle.plift_top.specs.Refine.{IsSoundText, LacksDepth, IsRefusedAtDepth, IsRefusedDeeper, deeper_head, IsFitting, IsRefinedTo, RefinesRight}
 use Rattle.plift_top.specs.declared.refusal.Refusal.{Refusal}
 use Rattle.plift_top.specs.declared.refusal.Refusal.TheVariants as refusal
+use Rattle.plift_top.proofs.Errors.{faultless}
 
 -- a text tells one report
 module _ (same : TextsTellOneReport) (bytes : List ℕ) (h g : HeadData) (t s : Tree) (one : IsSoundText bytes h t) (other : IsSoundText bytes g s) where
@@ -47,10 +48,7 @@ refines_right same old new depth bytes r h t is right =
 
 -- a sound report has no first fault
 never_faulty : SoundFilesPass → AnswersAreOne → (bytes : List ℕ) (h : HeadData) (t : Tree) → IsSoundText bytes h t → (error : CheckError) → Answers bytes (Err error) → ⊥
-never_faulty pass one bytes h t old error answers =
-    let leaves = leaf_counts (version h) t in
-    let is = one bytes (Ok leaves) (Err error) (pass bytes leaves (record { head = h; tree = t; sound = old.sound; text = old.text; counts = refl })) answers in
-    absurd (cc)
+never_faulty pass one bytes h t old error = faultless pass one bytes (leaf_counts (version h) t) error (record { head = h; tree = t; sound = old.sound; text = old.text; counts = refl })
 
 -- what refuses it is said of its own head
 module _ (same : TextsTellOneReport) (depth : ℕ) (bytes : List ℕ) (h : HeadData) (t : Tree) (old : IsSoundText bytes h t) where

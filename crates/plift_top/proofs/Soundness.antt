@@ -1,5 +1,5 @@
 -- Why what is written is a sound file: its head can be told, and its right tree is sound and can be told.
-use Rattle.std.proofs.Common.{ℕ, ◌+◌, List, [], ◌∷◌, ◌≡◌, ◌≤◌, All, refl, sym, subst, arith, rules}
+use Rattle.std.proofs.Common.{ℕ, ◌+◌, List, ◌≤◌, All, refl, sym, subst, arith}
 use Rattle.std.specs.Prelude.{None}
 use Rattle.std.specs.declared.option.Option.{Option}
 use Rattle.lift_grid.specs.Rectangle.{Spans}

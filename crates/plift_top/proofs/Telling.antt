@@ -1,26 +1,32 @@
--- What calls come to that write a report while its tree is walked over.
-use Rattle.std.proofs.Common.{◌≡◌, ℕ, List, ◌++◌, refl, sym, ap, ◌∙◌, subst, arith, Option, Result, Ok, Err, IsErr, MatchResult, append_assoc}
+-- What calls come to that write a text while its tree is walked over.
+use Rattle.std.proofs.Common.{◌≡◌, ℕ, List, ◌++◌, map, refl, sym, ap, ◌∙◌, subst, Option, Result, Ok, Err, MatchResult, append_assoc}
+use Rattle.std.specs.Prelude.{All}
 use Rattle.std.specs.List.{concat}
 use Rattle.std.specs.Io.KnownBytes.{Appends}
 use Rattle.std.proofs.KnownBytes.{Appends-trans}
-use Rattle.lift_base.specs.Outside.{Rose, AppendsFront, Wrote, WroteSome}
+use Rattle.lift_base.specs.Outside.{AppendsFront, Wrote, WroteSome}
 use Rattle.lift_base.specs.Laws.{Written, WritesBoth, StopsBefore}
 use Rattle.lift_base.specs.declared.output.WriteFault.{WriteFault}
-use Rattle.lift_grid.specs.Tree.{Tree}
+use Rattle.lift_grid.specs.Tree.{Tree, Tiles}
 use Rattle.lift_cert.specs.Laws.{AcceptingBounds, RejectingReaches}
 use Rattle.lift_cert.specs.declared.bound.Bound.{Bound}
 use Rattle.corner_lift.specs.Case.{CaseData}
 use Rattle.corner_lift.specs.Laws.{LowerPrecisionIsCase}
 use Rattle.region_tree.specs.Laws.{RootIsAtDepth, HalvesAreDeeper, RightTreesTile}
-use Rattle.region_tree.specs.Right.{IsRightTree}
-use Rattle.region_tree.specs.Visits.{Visits, Walks, entries}
+use Rattle.region_tree.specs.Nodes.{Node}
+use Rattle.region_tree.specs.Visits.{Takes, Visits, Shows, entries}
 use Rattle.region_tree.specs.declared.visitor.Seen.{Seen}
 use Rattle.region_tree.specs.declared.visitor.Seen.TheVariants.{Kept, Failed}
-use Rattle.cert_text.specs.Report.{head_lines, report_text}
-use Rattle.plift_top.specs.Reported.{whole_question}
-use Rattle.plift_top.specs.RightReport.{IsRange, IsRightReport, least, node_text}
-use Rattle.plift_top.specs.Steps.{IsTestedCase, WritesCase}
-use Rattle.plift_top.proofs.Leaves.{entries_are, leaves_hold, range_begins}
+use Rattle.cert_text.specs.Report.{tree_lines}
+use Rattle.plift_words.specs.declared.query.Query.{Query}
+use Rattle.plift_top.specs.Asked.{AskedModel}
+use Rattle.plift_top.specs.Reported.{CaseQuestion, IsReported, IsCutOff, whole_question}
+use Rattle.plift_top.specs.RightReport.{IsRange, IsRightReport, least}
+use Rattle.plift_top.specs.Steps.{IsTestedCase, WritesText, AnswersCase}
+use Rattle.plift_top.specs.Verify.{IsToldOf}
+use Rattle.plift_top.specs.declared.refusal.Refusal.{Refusal}
+use Rattle.plift_top.specs.declared.refusal.Refusal.TheVariants as refusal
+use Rattle.plift_top.proofs.Leaves.{leaves_hold, range_begins}
 
 -- what a visitor did, by what was written
 pub visited : {K T E : Type 0} (taken : K → Option (List ℕ)) (faults : K → ℕ) (old new : K) (result : Result T E) (seen : Seen) (bytes : List ℕ)
@@ -50,66 +56,65 @@ front_then a b c xs ys h g = (xs ++ g.0, g.1, ap (λ r. xs ++ r) g.2 ∙ sym (ap
 pub front_of : (a b : Option (List ℕ)) (xs ys : List ℕ) → AppendsFront a b xs → AppendsFront a b (xs ++ ys)
 front_of a b xs ys h = (h.0, h.1 ++ ys, ap (λ r. r ++ ys) h.2 ∙ append_assoc h.0 h.1 ys, h.3)
 
-module _ {K : Type 0} (k : CaseData) (from : Option ℕ) (bound : Bound) (taken : K → Option (List ℕ)) (faults : K → ℕ) where
-  abbrev pub head : List ℕ
-  head = concat (head_lines k from bound)
-
-  -- the bytes of a right tree's report, by its entries
-  by_entries : (P : List ℕ → Type 0) (bytes : List ℕ) → ((tree : Tree) → IsRightTree k (least k from) bound tree → P (head ++ entries (node_text k from) tree)) → IsRightReport k from bound bytes → P bytes
-  by_entries P bytes h (tree, right, is) = subst P (ap (λ r. head ++ r) (entries_are k from tree) ∙ sym is) (h tree right)
-
-  -- the head failed
-  pub head_failed : {T E U F : Type 0} (old new : K) (e : E) (result : Result U F) → IsErr result → Wrote {T = T} taken faults old new (Err e) head → WroteSome (IsRightReport k from bound) taken faults old new result
-  head_failed old new e (Ok x) bad w = absurd (cc)
-  head_failed old new e (Err f) bad w = record {
-    some = tt;
-    whole = tt;
-    part = λ bytes. by_entries (AppendsFront (taken old) (taken new)) bytes (λ tree right. front_of (taken old) (taken new) head (entries (node_text k from) tree) w.part);
-    cause = w.cause;
-    later = w.later;
-  }
-
-  -- the tree failed
-  pub tree_failed : {T E U F : Type 0} (old mid new : K) (x : T) (f : F) → Wrote {E = E} taken faults old mid (Ok x) head → Walks k (least k from) k.root bound 0 taken faults (node_text k from) mid new Failed
-      → WroteSome {T = U} (IsRightReport k from bound) taken faults old new (Err f)
-  tree_failed old mid new x f w walked = record {
-    some = tt;
-    whole = tt;
-    part = λ bytes. by_entries (AppendsFront (taken old) (taken new)) bytes (λ tree right. front_then (taken old) (taken mid) (taken new) head (entries (node_text k from) tree) w.whole (walked.took tree right));
-    cause = subst (λ n. Rose n (faults new)) w.calm (walked.cause refl);
-    later = omega (arith, w.later, walked.later);
-  }
-
-  -- all was written
-  pub all_reported : {T E U F : Type 0} (old mid new : K) (x : T) (y : U) → Wrote {E = E} taken faults old mid (Ok x) head → Walks k (least k from) k.root bound 0 taken faults (node_text k from) mid new Kept
-      → WroteSome {E = F} (IsRightReport k from bound) taken faults old new (Ok y)
-  all_reported old mid new x y w walked = record {
-    some = (let t = walked.tree refl in (report_text k from bound t.0, (t.0, t.1, refl)));
-    whole = λ bytes. by_entries (Appends (taken old) (taken new)) bytes (λ tree right. Appends-trans (taken old) (taken mid) (taken new) head (entries (node_text k from) tree) w.whole (walked.took tree right));
-    part = tt;
-    cause = tt;
-    later = omega (arith, w.later, walked.later);
-  }
+-- what a walk showed went to the sink of its visitor: the entries of a tree's nodes
+pub shown : {V K T E : Type 0} (out : V → K) (taken : K → Option (List ℕ)) (faults : K → ℕ) (Is : Tree → Type 0) (entry : Node → List ℕ) (text : Tree → List ℕ) → ((t : Tree) → entries entry t ≡ text t)
+    → (old new : V) (seen : Seen) (result : Result T E) → MatchResult result (λ _. seen ≡ Kept) (λ _. seen ≡ Failed) → Shows Is (λ v. taken (out v)) (λ v. faults (out v)) entry old new seen
+    → WroteSome (λ bytes. (t : Tree) × Is t × (bytes ≡ text t)) taken faults (out old) (out new) result
+shown out taken faults Is entry text same old new seen (Ok x) is w = record {
+  some = (let t = w.tree is in (text t.0, (t.0, t.1, refl)));
+  whole = λ bytes h. (let (t, holds, e) = h in subst (Appends (taken (out old)) (taken (out new))) (same t ∙ sym e) (subst (λ (s : Seen). Takes (taken (out old)) (taken (out new)) s (entries entry t)) is (w.took t holds)));
+  part = tt;
+  cause = tt;
+  later = w.later;
+}
+shown out taken faults Is entry text same old new seen (Err e) is w = record {
+  some = tt;
+  whole = tt;
+  part = λ bytes h. (let (t, holds, e) = h in subst (AppendsFront (taken (out old)) (taken (out new))) (same t ∙ sym e) (subst (λ (s : Seen). Takes (taken (out old)) (taken (out new)) s (entries entry t)) is (w.took t holds)));
+  cause = w.cause is;
+  later = w.later;
+}
 
 -- ---- the whole report
 
--- what is said of a case's report holds
-pub reported : AcceptingBounds → RejectingReaches → LowerPrecisionIsCase → RootIsAtDepth → HalvesAreDeeper → RightTreesTile
-    → {K : Type 0} (taken : K → Option (List ℕ)) (faults : K → ℕ) (k : CaseData) (from : Option ℕ) (bound : Bound) (old new : K) (result : Written) → IsTestedCase k → IsRange k from
-    → WroteSome (IsRightReport k from bound) taken faults old new result → WritesCase taken faults k (whole_question k from bound) old new result
-reported accepting reached lower root deeper tile taken faults k from bound old new (Ok x) case range w =
-    let tree = w.some.1.0 in
-    let right = w.some.1.1 in
-    record {
+-- The texts of which this holds tell what is asked of a case: each is that of a right tree, and that of each right tree is one. The leaves of a right tree tile the root, and what each says holds.
+pub record Tells (k : CaseData) (q : CaseQuestion) (IsText : List ℕ → Type 0) : Type 0 where
+  pub case : IsTestedCase k
+  pub fits : q.Fits
+  pub tree_of : (bytes : List ℕ) → IsText bytes → (tree : q.Trees) × q.IsRight tree
+  pub text_of : (tree : q.Trees) → q.IsRight tree → IsText (q.text_of tree)
+  pub tiles : (tree : q.Trees) → q.IsRight tree → Tiles k.d k.root (map q.spans_of (q.leaves_of tree))
+  pub holds : (tree : q.Trees) → q.IsRight tree → All q.Holds (q.leaves_of tree)
+
+-- where such a text was written, what is asked was answered
+pub answers : {K T : Type 0} (taken : K → Option (List ℕ)) (counts : K → ℕ) (k : CaseData) (q : CaseQuestion) (IsText : List ℕ → Type 0) (asked : Query) (a : AskedModel) → ((Told : CaseData → CaseQuestion → Type 0) → Told k q → IsToldOf Told asked a k) → Tells k q IsText
+    → (out out' : K) (result : Result T Refusal) → WritesText taken counts IsText out out' result → AnswersCase taken counts asked a k out out' result
+answers taken counts k q IsText asked a told t out out' (Ok x) ((bytes, is), whole) =
+    let (tree, right) = t.tree_of bytes is in
+    told (IsReported (taken out) (taken out')) (record {
       tree = tree;
-      fits = range;
-      case = case.case;
-      weights = case.weights;
-      sums = case.sums;
+      fits = t.fits;
+      case = t.case.case;
+      weights = t.case.weights;
+      sums = t.case.sums;
       right = right;
-      tiles = tile k (least k from) bound tree case.case right;
-      schedulers = leaves_hold accepting reached lower deeper k bound case.case (least k from) (range_begins k from case.case range).0 k.root 0 tree (root k case.case) right;
-      text = w.whole (report_text k from bound tree) (tree, right, refl);
-    }
-reported accepting reached lower root deeper tile taken faults k from bound old new (Err e) case range w =
-    (record { fits = range; case = case.case; weights = case.weights; sums = case.sums; front = λ tree right. w.part (report_text k from bound tree) (tree, right, refl) }, w.cause)
+      tiles = t.tiles tree right;
+      schedulers = t.holds tree right;
+      text = whole (q.text_of tree) (t.text_of tree right);
+    })
+answers taken counts k q IsText asked a told t out out' (Err refusal.WriteFault) (part, rose) =
+    (told (IsCutOff (taken out) (taken out')) (record { fits = t.fits; case = t.case.case; weights = t.case.weights; sums = t.case.sums; front = λ tree right. part (q.text_of tree) (t.text_of tree right) }), rose)
+answers taken counts k q IsText asked a told t out out' (Err refusal.Memory) same = same
+answers taken counts k q IsText asked a told t out out' (Err _) none = absurd none
+
+-- the report of a case tells what is asked for a bound
+pub tells_reach : AcceptingBounds → RejectingReaches → LowerPrecisionIsCase → RootIsAtDepth → HalvesAreDeeper → RightTreesTile → (k : CaseData) (from : Option ℕ) (bound : Bound) → IsTestedCase k → IsRange k from
+    → Tells k (whole_question k from bound) (IsRightReport k from bound)
+tells_reach accepting reached lower root deeper tile k from bound case range = record {
+  case = case;
+  fits = range;
+  tree_of = λ bytes is. (let (nodes, are, e) = is in (are.0, are.1));
+  text_of = λ tree right. (concat (tree_lines from k.model.init tree), (tree, right, refl), refl);
+  tiles = λ tree right. tile k (least k from) bound tree case.case right;
+  holds = λ tree right. leaves_hold accepting reached lower deeper k bound case.case (least k from) (range_begins k from case.case range).0 k.root 0 tree (root k case.case) right;
+}

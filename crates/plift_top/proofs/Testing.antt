@@ -26,12 +26,14 @@ use Rattle.plift_words.specs.Job.{VerifyData}
 use Rattle.plift_top.specs.Refused.{check_refusal}
 use Rattle.plift_top.specs.Asked.{AskedModel, uncut, cut, asked_model, verified_model}
 use Rattle.plift_top.specs.Reported.{IsReported, IsCutOff, whole_question}
-use Rattle.plift_top.specs.Verify.{Makes, IsRefused, Verifies}
+use Rattle.plift_top.specs.Verify.{Makes, IsRefused, verifying}
 use Rattle.plift_top.specs.Laws.{RightReportsAreSound}
 use Rattle.plift_top.specs.Selftest.{one_half, ladder_job, IsLadderTree, ladder_report, tested_line, HasLongReport, IsLadderReport, GivesWithin, ReportsLadder, Selftests}
 use Rattle.plift_top.specs.declared.refusal.Refusal.{Refusal}
 use Rattle.plift_top.specs.declared.refusal.Refusal.TheVariants as refusal
+use Rattle.plift_top.specs.Reads.{Reads}
 use Rattle.plift_top.proofs.Reading.{given, short}
+use Rattle.plift_top.proofs.Errors.{at_error}
 use Rattle.plift_top.proofs.Asked.{ok_same, read_uncut}
 use Rattle.plift_top.proofs.Refusals.{never_refused}
 
@@ -122,43 +124,43 @@ module _ (n : ℕ) (some : 1 ≤ n) (few : n ≤ most_blocks) (texts : TextIsSho
   module _ {S K : Type 0} (source source' : S) (out out' : K) (left : S → Option (List ℕ)) (faults : S → ℕ) (taken : K → Option (List ℕ)) (counts : K → ℕ) (bytes : List ℕ)
       (reported : left source ≡ Some (ladder_text n)) (calm : faults source' ≡ 0) (empty : taken out ≡ Some []) (took : taken out' ≡ Some bytes) (none : counts out ≡ 0) where
     -- what verifying the ladder came to, where its report was written
-    pub verified_ladder : Verifies {T = Unit {0}} left faults taken counts ladder_job source source' out out' (Ok tt) → Makes (λ a. Told bytes) ladder_job (ladder_text n)
+    pub verified_ladder : Reads {T = Unit {0}} left faults taken counts (verifying ladder_job) source source' out out' (Ok tt) → Makes (λ a. Told bytes) ladder_job (ladder_text n)
     verified_ladder v = given (Makes (λ a. Told bytes) ladder_job) (ladder_text n) (left source') (rw (reported, empty, took) at v)
 
     -- where there was no room for it
-    pub overflowed : Verifies {T = Unit {0}} left faults taken counts ladder_job source source' out out' (Err refusal.WriteFault) → Makes (λ a. ToldInPart bytes) ladder_job (ladder_text n) × (0 < counts out')
+    pub overflowed : Reads {T = Unit {0}} left faults taken counts (verifying ladder_job) source source' out out' (Err refusal.WriteFault) → Makes (λ a. ToldInPart bytes) ladder_job (ladder_text n) × (0 < counts out')
     overflowed v = (given (Makes (λ a. ToldInPart bytes) ladder_job) (ladder_text n) (left source') (rw (reported, empty, took) at v.0), counted (counts out') (rw none at v.1))
 
     -- else memory ran out
-    pub stopped_short : AdmittedHasNoFault → (faults source ≡ 0) → (why : Refusal) → (why ≡ refusal.WriteFault → ⊥) → Verifies {T = Unit {0}} left faults taken counts ladder_job source source' out out' (Err why) → why ≡ refusal.Memory
+    pub stopped_short : AdmittedHasNoFault → (faults source ≡ 0) → (why : Refusal) → (why ≡ refusal.WriteFault → ⊥) → Reads {T = Unit {0}} left faults taken counts (verifying ladder_job) source source' out out' (Err why) → why ≡ refusal.Memory
     stopped_short law begin refusal.Memory other v = refl
     stopped_short law begin refusal.WriteFault other v = absurd (other refl)
     stopped_short law begin refusal.ReadFault other v = absurd (let h = v.0 in omega arith)
-    stopped_short law begin refusal.TooLong other v = absurd (short (ladder_text n) (left source') (let h = texts n few in omega arith) (rw reported at v.0))
-    stopped_short law begin (refusal.Usage f) other v = absurd v.0
-    stopped_short law begin (refusal.Unsound error) other v = absurd v.0
+    stopped_short law begin refusal.TooLong other v = absurd (short file_limit (ladder_text n) (left source') (let h = texts n few in omega arith) (rw reported at v.0))
+    stopped_short law begin (refusal.Usage f) other v = absurd v.0.has
+    stopped_short law begin (refusal.Unsound error) other v = absurd v.0.has
     stopped_short law begin why other v = absurd (never law why (given (IsRefused ladder_job why) (ladder_text n) (left source') (rw reported at v.0)))
 
     -- verifying the ladder failed: its report is too long, or memory ran out
-    pub failed : AdmittedHasNoFault → (faults source ≡ 0) → (0 < counts out' → length bytes ≡ file_limit + 1) → (why : Refusal) → Verifies {T = Unit {0}} left faults taken counts ladder_job source source' out out' (Err why)
+    pub failed : AdmittedHasNoFault → (faults source ≡ 0) → (0 < counts out' → length bytes ≡ file_limit + 1) → (why : Refusal) → Reads {T = Unit {0}} left faults taken counts (verifying ladder_job) source source' out out' (Err why)
         → ((why ≡ refusal.WriteFault) × HasLongReport n) ⊎ (why ≡ refusal.Memory)
     failed law begin full refusal.WriteFault v = (let h = overflowed v in inl (refl, cut_report bytes h.0 (full h.1)))
     failed law begin full why v = inr (stopped_short law begin why (λ e. absurd (cc)) v)
 
     -- so there is no report to give
-    pub failed_report : AdmittedHasNoFault → (faults source ≡ 0) → (0 < counts out' → length bytes ≡ file_limit + 1) → (job : VerifyData) → job ≡ ladder_job → (why : Refusal) → Verifies {T = Unit {0}} left faults taken counts job source source' out out' (Err why)
+    pub failed_report : AdmittedHasNoFault → (faults source ≡ 0) → (0 < counts out' → length bytes ≡ file_limit + 1) → (job : VerifyData) → job ≡ ladder_job → (why : Refusal) → Reads {T = Unit {0}} left faults taken counts (verifying job) source source' out out' (Err why)
         → (why ≡ refusal.WriteFault → ReportsLadder n (Err refusal.TooLong)) × ((why ≡ refusal.WriteFault → ⊥) → ReportsLadder n (Err why))
-    failed_report law begin full job same why v = by (failed law begin full why (subst (λ (j : VerifyData). Verifies {T = Unit {0}} left faults taken counts j source source' out out' (Err why)) same v))
+    failed_report law begin full job same why v = by (failed law begin full why (subst (λ (j : VerifyData). Reads {T = Unit {0}} left faults taken counts (verifying j) source source' out out' (Err why)) same v))
       where
         by : ((why ≡ refusal.WriteFault) × HasLongReport n) ⊎ (why ≡ refusal.Memory) → (why ≡ refusal.WriteFault → ReportsLadder n (Err refusal.TooLong)) × ((why ≡ refusal.WriteFault → ⊥) → ReportsLadder n (Err why))
         by (inl h) = (λ e. h.1, λ other. absurd (other h.0))
         by (inr h) = (λ e. absurd (cc), λ other. subst (λ (r : Refusal). ReportsLadder n (Err r)) (sym h) tt)
 
     -- the report that was written, where it fits
-    pub given_report : RightReportsAreSound → RightTreesAreOne → (job : VerifyData) → job ≡ ladder_job → Verifies {T = Unit {0}} left faults taken counts job source source' out out' (Ok tt)
+    pub given_report : RightReportsAreSound → RightTreesAreOne → (job : VerifyData) → job ≡ ladder_job → Reads {T = Unit {0}} left faults taken counts (verifying job) source source' out out' (Ok tt)
         → (kept : Vec ℕ Global) → kept.items ≡ bytes → (result : Result (Vec ℕ Global) Refusal) → GivesWithin file_limit kept result → ReportsLadder n result
     given_report law one job same v kept is result h =
-        let m = verified_ladder (subst (λ (j : VerifyData). Verifies {T = Unit {0}} left faults taken counts j source source' out out' (Ok tt)) same v) in
+        let m = verified_ladder (subst (λ (j : VerifyData). Reads {T = Unit {0}} left faults taken counts (verifying j) source source' out out' (Ok tt)) same v) in
         within_report law one kept result (subst (λ (b : List ℕ). Makes (λ a. Told b) ladder_job (ladder_text n)) (sym is) m) h
 
 -- ---- its check
@@ -182,16 +184,6 @@ passed_check answer x was leaves (inr found) = absurd (cc)
 -- ---- its line
 
 module _ {K : Type 0} (taken : K → Option (List ℕ)) (counts : K → ℕ) (n : ℕ) where
-  -- there is no report
-  pub not_reported : (why : Refusal) (result : Result (Unit {0}) Refusal) (out : K) → IsErrAnd result (λ e. e ≡ why) → ReportsLadder n (Err why) → Selftests taken counts n out out result
-  not_reported why (Ok x) out is h = absurd is
-  not_reported why (Err e) out is h = subst (λ (r : Refusal). Selftests {T = Unit {0}} taken counts n out out (Err r)) (sym is) (by why h)
-    where
-      by : (why : Refusal) → ReportsLadder n (Err why) → Selftests {T = Unit {0}} taken counts n out out (Err why)
-      by refusal.TooLong h = (h, refl)
-      by refusal.Memory h = refl
-      by _ h = absurd h
-
   module _ (bytes : List ℕ) (report : IsLadderReport n bytes) (answer : Result Summary Refusal) (reported : (leaves : Summary) → IsSoundFile bytes leaves → (answer ≡ Ok leaves) ⊎ (answer ≡ Err refusal.Memory)) where
     -- its leaves weren't counted
     pub not_counted : (why : Refusal) → answer ≡ Err why → (result : Result (Unit {0}) Refusal) (out : K) → IsErrAnd result (λ e. e ≡ why) → Selftests taken counts n out out result
@@ -217,6 +209,5 @@ module _ {K : Type 0} (taken : K → Option (List ℕ)) (counts : K → ℕ) (n 
 
       -- or a front of it
       pub line_cut : {T E : Type 0} (fault : E) (result : Result (Unit {0}) Refusal) → IsErrAnd result (λ e. e ≡ refusal.WriteFault) → Wrote {T = T} {E = E} taken counts out out' (Err fault) (tested_line n leaves) → Selftests taken counts n out out' result
-      line_cut fault (Ok x) is w = absurd is
-      line_cut fault (Err e) is w = subst (λ (r : Refusal). Selftests {T = Unit {0}} taken counts n out out' (Err r)) (sym is)
+      line_cut fault result is w = at_error (Selftests taken counts n out out') refusal.WriteFault result is
           ((report.tree, report.tested, subst (λ (l : Summary). AppendsFront (taken out) (taken out') (tested_line n l)) (leaves_are leaves was) w.part), w.cause)

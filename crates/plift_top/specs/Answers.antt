@@ -19,10 +19,11 @@ use Rattle.plift_words.specs.declared.job.Field.{Field}
 use Rattle.plift_words.specs.declared.job.Field.TheVariants as field
 use Rattle.check_notes.specs.Rows.{row_text, row_fault}
 use Rattle.check_notes.specs.Unsound.{unsound_note}
-use Rattle.plift_top.specs.Verify.{Verifies, WasRead, IsRefused}
-use Rattle.plift_top.specs.Check.{Checks}
-use Rattle.plift_top.specs.Migrate.{IsRefusedFirst, Migrates}
-use Rattle.plift_top.specs.Refine.{IsRefusedDeeper, RefinesReport}
+use Rattle.plift_top.specs.Reads.{WasRead, Reads}
+use Rattle.plift_top.specs.Verify.{IsRefused, verifying}
+use Rattle.plift_top.specs.Check.{checking}
+use Rattle.plift_top.specs.Migrate.{IsRefusedFirst, migrating}
+use Rattle.plift_top.specs.Refine.{IsRefusedDeeper, refining}
 use Rattle.plift_top.specs.Selftest.{HasLongReport, Selftests}
 use Rattle.cert_check.specs.Answer.{Answers}
 use Rattle.cert_check.specs.Source.{NoFault, file_limit, report_limit}
@@ -177,10 +178,10 @@ Generates taken counts blocks out out' (Err _) = ⊥
 
 -- the words ask for a job and it was done or refused, or they ask for none and nothing was touched
 abbrev pub Acts : {S K T : Type 0} → (S → Option (List ℕ)) → (S → ℕ) → (K → Option (List ℕ)) → (K → ℕ) → Result JobData Field → S → S → K → K → Result T Refusal → Type 0
-Acts left faults taken counts (Ok (verify job)) source source' out out' result = Verifies left faults taken counts job source source' out out' result
+Acts left faults taken counts (Ok (verify job)) source source' out out' result = Reads left faults taken counts (verifying job) source source' out out' result
 Acts left faults taken counts (Ok (generate blocks)) source source' out out' result = Generates taken counts blocks out out' result × (source' ≡ source)
-Acts left faults taken counts (Ok check) source source' out out' result = Checks left faults taken counts source source' out out' result
-Acts left faults taken counts (Ok migrate) source source' out out' result = Migrates left faults taken counts source source' out out' result
-Acts left faults taken counts (Ok (refine depth)) source source' out out' result = RefinesReport left faults taken counts depth source source' out out' result
+Acts left faults taken counts (Ok check) source source' out out' result = Reads left faults taken counts checking source source' out out' result
+Acts left faults taken counts (Ok migrate) source source' out out' result = Reads left faults taken counts migrating source source' out out' result
+Acts left faults taken counts (Ok (refine depth)) source source' out out' result = Reads left faults taken counts (refining depth) source source' out out' result
 Acts left faults taken counts (Ok (selftest blocks)) source source' out out' result = Selftests taken counts blocks out out' result × (source' ≡ source)
 Acts left faults taken counts (Err f) source source' out out' result = RefusesLine f result × (source' ≡ source) × (out' ≡ out)

@@ -1,5 +1,5 @@
 -- What `bounded` writes of a case: the text of its right tree for a number of steps, and what the leaves of that tree say.
-use Rattle.std.specs.Prelude.{◌≡◌, ⊤, ℕ, List, [], ◌∷◌, ◌++◌, codes, Option, Some, None}
+use Rattle.std.specs.Prelude.{⊤, ℕ, List, [], ◌∷◌, ◌++◌, codes, Option, Some, None}
 use Rattle.std.specs.List.{concat}
 use Rattle.lift_poly.specs.Polynomial.{Valuation}
 use Rattle.lift_grid.specs.Rectangle.{Inside}
@@ -9,7 +9,7 @@ use Rattle.lift_cert.specs.declared.bound.Bound.{Bound}
 use Rattle.cert_text.specs.Report.{line, number_words, bound_words}
 use Rattle.lift_bounded.specs.Within.{IsBoundedWithin, IsReachedWithin}
 use Rattle.lift_bounded.specs.Decided.{BoundedLeaf, IsRightWithin}
-use Rattle.lift_bounded.specs.Text.{tree_text, IsTreeText}
+use Rattle.lift_bounded.specs.Text.{tree_text}
 use Rattle.plift_top.specs.Heads.{head_of}
 use Rattle.plift_top.specs.Parts.{Part}
 use Rattle.plift_top.specs.Reported.{CaseQuestion, halved_question}
@@ -31,10 +31,6 @@ bounded_head k bound h = head_of bounded_line k (within_lines bound h)
 -- the bytes of a text: those of its head, and of its tree's nodes in preorder
 abbrev pub bounded_text : CaseData → Bound → ℕ → Halved BoundedLeaf → List ℕ
 bounded_text k bound h tree = concat (bounded_head k bound h) ++ tree_text k h tree
-
--- the bytes are the text of a case's right tree for a bound and a number of steps
-abbrev pub IsBoundedText : CaseData → Bound → ℕ → List ℕ → Type 0
-IsBoundedText k bound h bytes = (nodes : List ℕ) × IsTreeText k bound h k.root 0 nodes × (bytes ≡ concat (bounded_head k bound h) ++ nodes)
 
 -- ---- what its leaves say
 

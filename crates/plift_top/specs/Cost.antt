@@ -1,5 +1,5 @@
 -- What `cost` writes of a case: the text of its right tree for costs, a cap and a budget, and what the leaves of that tree say of what is paid before the goal.
-use Rattle.std.specs.Prelude.{◌≡◌, ℕ, List, [], ◌∷◌, ◌++◌, map, codes, ℤ, Some, None}
+use Rattle.std.specs.Prelude.{ℕ, List, [], ◌∷◌, ◌++◌, map, codes, ℤ, Some, None}
 use Rattle.std.specs.Fmt.{decimal}
 use Rattle.std.specs.List.{concat}
 use Rattle.std.specs.declared.option.Option.{Option}
@@ -11,7 +11,7 @@ use Rattle.lift_walk.specs.Halved.{Halved}
 use Rattle.lift_costs.specs.Costs.{CostData}
 use Rattle.lift_cost.specs.Paid.{IsPaidAt}
 use Rattle.lift_cost.specs.Decided.{AskedCost, IsOpenCost, IsRightCost}
-use Rattle.lift_cost.specs.Text.{tree_text, IsTreeText}
+use Rattle.lift_cost.specs.Text.{tree_text}
 use Rattle.cert_text.specs.Report.{line, number_words}
 use Rattle.plift_words.specs.declared.query.CostLimits.{CostLimits}
 use Rattle.plift_top.specs.Asked.{AskedModel}
@@ -56,10 +56,6 @@ cost_head k q = head_of cost_line k (cost_lines q)
 -- the bytes of a text: those of its head, and of its tree's nodes in preorder
 abbrev pub cost_text : CaseData → AskedCost → Halved (List ℤ) → List ℕ
 cost_text k q tree = concat (cost_head k q) ++ tree_text tree
-
--- the bytes are the text of a case's right tree for what is asked
-abbrev pub IsCostText : CaseData → AskedCost → List ℕ → Type 0
-IsCostText k q bytes = (nodes : List ℕ) × IsTreeText k q k.root 0 nodes × (bytes ≡ concat (cost_head k q) ++ nodes)
 
 -- ---- what its leaves say
 

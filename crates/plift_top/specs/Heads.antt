@@ -1,7 +1,11 @@
--- How fine a case is divided, and the head of a text that tells it, which the texts for a number of steps and for a property share.
-use Rattle.std.specs.Prelude.{List, [], ◌∷◌, ◌++◌, ℕ, codes}
+-- Texts of a head and of the nodes of a tree. How fine a case is divided, and the head of a text that tells it, which the texts for a number of steps, for a property and for a budget share.
+use Rattle.std.specs.Prelude.{◌≡◌, List, [], ◌∷◌, ◌++◌, ℕ, codes}
 use Rattle.corner_lift.specs.Case.{CaseData}
 use Rattle.cert_text.specs.Report.{line, number_words, numbers_words, model_lines, box_line}
+
+-- the bytes are those of a head, and then of the nodes of a tree
+abbrev pub IsHeaded : List ℕ → (List ℕ → Type 0) → List ℕ → Type 0
+IsHeaded head AreNodes bytes = (nodes : List ℕ) × AreNodes nodes × (bytes ≡ head ++ nodes)
 
 -- the precision, the depth and the grid's number
 unfoldable pub fineness_lines : CaseData → List (List ℕ)

@@ -1,12 +1,13 @@
+pub mod Heads
 pub mod RightReport
 pub mod Asked
 pub mod Parts
-pub mod Heads
 pub mod Reported
 pub mod Bounded
 pub mod Lumped
 pub mod Property
 pub mod Cost
+pub mod Reads
 pub mod Verify
 pub mod Check
 pub mod Migrate

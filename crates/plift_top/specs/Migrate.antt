@@ -1,8 +1,7 @@
 -- What `migrate` answers, and what stands after it.
-use Rattle.std.specs.Prelude.{◌≡◌, ◌⊎◌, ◌<◌, ℕ, List, ◌++◌, true, length, Ok, Err, Result, ⊤}
-use Rattle.std.specs.declared.option.Option.{Option}
+use Rattle.std.specs.Prelude.{◌≡◌, ◌⊎◌, ℕ, List, ◌++◌, true, Ok, Err, Result, ⊤}
 use Rattle.std.specs.Io.KnownBytes.{Appends}
-use Rattle.lift_base.specs.Outside.{Rose, TakenHas, AppendsFront}
+use Rattle.lift_base.specs.Outside.{AppendsFront}
 use Rattle.line_text.specs.declared.error.TextCause.TheVariants.{Version}
 use Rattle.cert_text.specs.Report.{line, version_words}
 use Rattle.cert_text.specs.Migrated.{MigratesTo}
@@ -12,7 +11,7 @@ use Rattle.cert_check.specs.declared.summary.Summary.{Summary}
 use Rattle.cert_check.specs.declared.error.CheckError.{CheckError}
 use Rattle.cert_check.specs.declared.error.CheckError.TheVariants.{Text, Fault, TooLong, Memory}
 use Rattle.cert_check.specs.Source.{file_limit}
-use Rattle.plift_top.specs.Verify.{WasRead}
+use Rattle.plift_top.specs.Reads.{WasRead, Command}
 use Rattle.plift_top.specs.declared.refusal.Refusal.{Refusal}
 use Rattle.plift_top.specs.declared.refusal.Refusal.TheVariants as refusal
 
@@ -54,25 +53,11 @@ pub record IsMigrated (Took : List ℕ → Type 0) (bytes : List ℕ) : Type 0 w
   pub file : IsSoundFile new (record leaves { version = 2 })
   pub took : Took new
 
--- what migrating a text that was read comes to
-abbrev pub MigratesText : {K T : Type 0} → (K → Option (List ℕ)) → (K → ℕ) → List ℕ → K → K → Result T Refusal → Type 0
-MigratesText taken counts bytes out out' (Ok _) = IsMigrated (Appends (taken out) (taken out')) bytes
-MigratesText taken counts bytes out out' (Err refusal.WriteFault) = IsMigrated (AppendsFront (taken out) (taken out')) bytes × Rose (counts out) (counts out')
-MigratesText taken counts bytes out out' (Err refusal.Memory) = out' ≡ out
-MigratesText taken counts bytes out out' (Err (refusal.Unsound error)) = IsRefusedFirst error bytes × (out' ≡ out)
-MigratesText taken counts bytes out out' (Err _) = ⊥
+-- why a text isn't migrated
+abbrev pub RefusesFirst : Refusal → List ℕ → Type 0
+RefusesFirst (refusal.Unsound error) bytes = IsRefusedFirst error bytes
+RefusesFirst _ bytes = ⊥
 
--- why a report wasn't migrated, before anything was written
-abbrev pub StopsMigrate : {S : Type 0} → (S → Option (List ℕ)) → (S → ℕ) → S → S → Refusal → Type 0
-StopsMigrate left faults source source' refusal.ReadFault = Rose (faults source) (faults source')
-StopsMigrate left faults source source' refusal.TooLong = TakenHas (λ bytes. file_limit < length bytes) (left source) (left source')
-StopsMigrate left faults source source' refusal.Memory = ⊤
-StopsMigrate left faults source source' (refusal.Unsound error) = WasRead (IsRefusedFirst error) (left source) (left source')
-StopsMigrate left faults source source' _ = ⊥
-
--- What migrating a report comes to: the text of the second version is written, or there is a cause. The sink is as it was but for that text or a front of it.
-abbrev pub Migrates : {S K T : Type 0} → (S → Option (List ℕ)) → (S → ℕ) → (K → Option (List ℕ)) → (K → ℕ) → S → S → K → K → Result T Refusal → Type 0
-Migrates left faults taken counts source source' out out' (Ok _) = WasRead (IsMigrated (Appends (taken out) (taken out'))) (left source) (left source')
-Migrates left faults taken counts source source' out out' (Err refusal.WriteFault) =
-    WasRead (IsMigrated (AppendsFront (taken out) (taken out'))) (left source) (left source') × Rose (counts out) (counts out')
-Migrates left faults taken counts source source' out out' (Err why) = StopsMigrate left faults source source' why × (out' ≡ out)
+-- the command that migrates a report: the text of the second version is written
+abbrev pub migrating : Command
+migrating = record { limit = file_limit; Done = λ old new. IsMigrated (Appends old new); CutOff = λ old new. IsMigrated (AppendsFront old new); Refuses = RefusesFirst; Knows = WasRead }

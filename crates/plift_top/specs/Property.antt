@@ -1,5 +1,5 @@
 -- What `property` writes of a case: the text of its right tree for a comparison and a bound, and what the leaves of that tree say of until in the model that was read.
-use Rattle.std.specs.Prelude.{◌≡◌, ⊤, ℕ, Bool, List, [], ◌∷◌, ◌++◌, codes, Option, Some, None, IfSome}
+use Rattle.std.specs.Prelude.{⊤, ℕ, Bool, List, [], ◌∷◌, ◌++◌, codes, Option, Some, None, IfSome}
 use Rattle.std.specs.Fmt.{decimal}
 use Rattle.std.specs.List.{concat}
 use Prim.Native.Char.{code}
@@ -14,7 +14,7 @@ use Rattle.property_text.specs.Grammar.{op_text}
 use Rattle.property_text.specs.declared.op.Op.{Op}
 use Rattle.lift_dual.specs.Said.{UntilOfAllIsAtMost, UntilOfAllIsAtLeast, UntilOfOneIsAtMost, UntilOfOneIsAtLeast}
 use Rattle.property_tree.specs.Leaves.{PropertyLeaf, Settles, IsRightFor}
-use Rattle.property_tree.specs.Text.{tree_text, IsTreeText}
+use Rattle.property_tree.specs.Text.{tree_text}
 use Rattle.plift_top.specs.Asked.{AskedModel, safe_states}
 use Rattle.plift_top.specs.Heads.{head_of}
 use Rattle.plift_top.specs.Parts.{Part}
@@ -37,10 +37,6 @@ property_head k op bound = head_of property_line k (property_lines op bound)
 -- the bytes of a text: those of its head, and of its tree's nodes in preorder
 abbrev pub property_text : CaseData → Op → Bound → Halved PropertyLeaf → List ℕ
 property_text k op bound tree = concat (property_head k op bound) ++ tree_text k op tree
-
--- the bytes are the text of a case's right tree for a comparison and a bound
-abbrev pub IsPropertyText : CaseData → Op → Bound → List ℕ → Type 0
-IsPropertyText k op bound bytes = (nodes : List ℕ) × IsTreeText k op bound k.root 0 nodes × (bytes ≡ concat (property_head k op bound) ++ nodes)
 
 -- ---- what its leaves say
 

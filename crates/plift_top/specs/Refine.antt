@@ -1,17 +1,15 @@
 -- What `refine` answers, and what stands after it.
-use Rattle.std.specs.Prelude.{◌≡◌, ◌⊎◌, ◌-◌, ◌^◌, ◌<◌, ◌≤◌, ⊤, ℕ, List, length, None, Ok, Err, Result}
+use Rattle.std.specs.Prelude.{◌≡◌, ◌⊎◌, ◌-◌, ◌^◌, ◌<◌, ◌≤◌, ⊤, ℕ, List, None, Ok, Err, Result}
 use Rattle.std.specs.declared.option.Option.{Option}
 use Rattle.std.specs.List.{AllByRecursion, concat, flat_map}
 use Rattle.std.specs.Io.KnownBytes.{Appends}
-use Rattle.lift_base.specs.Outside.{Rose, TakenHas, AppendsFront}
+use Rattle.lift_base.specs.Outside.{Rose, AppendsFront}
 use Rattle.lift_grid.specs.Rectangle.{Spans}
 use Rattle.lift_grid.specs.Region.{Region}
 use Rattle.lift_grid.specs.Parts.{region_of}
 use Rattle.lift_grid.specs.Tree.{Tree}
 use Rattle.lift_grid.specs.declared.rect.Grid.{Grid}
-use Rattle.lift_model.specs.Model.{ModelData}
-use Rattle.corner_lift.specs.Case.{CaseData, IsCase, case_of}
-use Rattle.lift_cert.specs.declared.bound.Bound.{Bound}
+use Rattle.corner_lift.specs.Case.{CaseData, IsCase}
 use Rattle.lift_rows.specs.Fault.{IsFirstFault}
 use Rattle.lift_finer.specs.Finer.{finer_region, finer_within}
 use Rattle.region_tree.specs.Bases.{IsRefined}
@@ -23,14 +21,13 @@ use Rattle.cert_text.specs.Head.{HeadData, least_precision, version}
 use Rattle.cert_text.specs.Forms.{IsHead, IsNode}
 use Rattle.cert_text.specs.Laws.{text_of}
 use Rattle.cert_text.specs.Nodes as text
-use Rattle.cert_text.specs.Report.{report_text, tree_lines}
+use Rattle.cert_text.specs.Report.{tree_lines}
 use Rattle.cert_check.specs.Sound.{IsSound, IsSoundFile, leaf_counts}
 use Rattle.cert_check.specs.Answer.{Answers}
 use Rattle.cert_check.specs.Source.{file_limit}
 use Rattle.plift_words.specs.declared.job.Field.TheVariants.{Depth}
 use Rattle.plift_top.specs.RightReport.{node_text}
-use Rattle.plift_top.specs.Steps.{IsTestedCase}
-use Rattle.plift_top.specs.Verify.{WasRead}
+use Rattle.plift_top.specs.Reads.{WasRead, Command}
 use Rattle.plift_top.specs.declared.refusal.Refusal.{Refusal}
 use Rattle.plift_top.specs.declared.refusal.Refusal.TheVariants as refusal
 
@@ -117,34 +114,11 @@ abbrev pub RefinesRight : Option (List ℕ) → Option (List ℕ) → ℕ → Li
 RefinesRight old new depth bytes = (h : HeadData) (t : Tree) → IsSoundText bytes h t → IsRightTree h.asked (least_precision h) h.bound t
     → (tree : Tree) × IsRightTree (deeper_head depth h).asked (least_precision h) h.bound tree × Appends old new (text_of (deeper_head depth h) tree)
 
--- why a report wasn't gone on from, before anything was written
-abbrev pub StopsRefine : {S : Type 0} → (S → Option (List ℕ)) → (S → ℕ) → ℕ → S → S → Refusal → Type 0
-StopsRefine left faults depth source source' refusal.ReadFault = Rose (faults source) (faults source')
-StopsRefine left faults depth source source' refusal.TooLong = TakenHas (λ bytes. file_limit < length bytes) (left source) (left source')
-StopsRefine left faults depth source source' refusal.Memory = ⊤
-StopsRefine left faults depth source source' (refusal.Unsound error) = WasRead (IsRefusedDeeper depth (refusal.Unsound error)) (left source) (left source')
-StopsRefine left faults depth source source' (refusal.Usage f) = WasRead (IsRefusedDeeper depth (refusal.Usage f)) (left source) (left source')
-StopsRefine left faults depth source source' (refusal.Rows error) = WasRead (IsRefusedDeeper depth (refusal.Rows error)) (left source) (left source')
-StopsRefine left faults depth source source' _ = ⊥
-
--- What going on from a report comes to: the report at the greater depth is written, or there is a cause. The sink is as it was but for that report or a front of it.
-abbrev pub RefinesReport : {S K T : Type 0} → (S → Option (List ℕ)) → (S → ℕ) → (K → Option (List ℕ)) → (K → ℕ) → ℕ → S → S → K → K → Result T Refusal → Type 0
-RefinesReport left faults taken counts depth source source' out out' (Ok _) = WasRead (IsRefinedTo (taken out) (taken out') depth) (left source) (left source')
-RefinesReport left faults taken counts depth source source' out out' (Err refusal.WriteFault) =
-    WasRead (IsRefinedInPart (taken out) (taken out') depth) (left source) (left source') × Rose (counts out) (counts out')
-RefinesReport left faults taken counts depth source source' out out' (Err why) = StopsRefine left faults depth source source' why × (out' ≡ out)
+-- the command that goes on from a report: the one at the greater depth is written
+abbrev pub refining : ℕ → Command
+refining depth = record { limit = file_limit; Done = λ old new. IsRefinedTo old new depth; CutOff = λ old new. IsRefinedInPart old new depth; Refuses = IsRefusedDeeper depth; Knows = WasRead }
 
 -- ---- its steps
-
--- going on from a text that was read
-abbrev pub RefinesText : {K T : Type 0} → (K → Option (List ℕ)) → (K → ℕ) → ℕ → List ℕ → K → K → Result T Refusal → Type 0
-RefinesText taken counts depth bytes out out' (Ok _) = IsRefinedTo (taken out) (taken out') depth bytes
-RefinesText taken counts depth bytes out out' (Err refusal.WriteFault) = IsRefinedInPart (taken out) (taken out') depth bytes × Rose (counts out) (counts out')
-RefinesText taken counts depth bytes out out' (Err refusal.Memory) = out' ≡ out
-RefinesText taken counts depth bytes out out' (Err (refusal.Unsound error)) = IsRefusedDeeper depth (refusal.Unsound error) bytes × (out' ≡ out)
-RefinesText taken counts depth bytes out out' (Err (refusal.Usage f)) = IsRefusedDeeper depth (refusal.Usage f) bytes × (out' ≡ out)
-RefinesText taken counts depth bytes out out' (Err (refusal.Rows error)) = IsRefusedDeeper depth (refusal.Rows error) bytes × (out' ≡ out)
-RefinesText taken counts depth bytes out out' (Err _) = ⊥
 
 -- the tree of a sound report, whose nodes have this text
 pub record IsOldTree (h : HeadData) (nodes : List ℕ) (t : Tree) : Type 0 where
@@ -169,34 +143,16 @@ GivesRegion depth h (Err (refusal.Usage f)) = (f ≡ Depth) × LacksDepth depth 
 GivesRegion depth h (Err refusal.Memory) = ⊤
 GivesRegion depth h (Err _) = ⊥
 
--- the case there, where its rows are admitted, or their first fault
-abbrev pub AdmitsDeeper : ModelData → Region → ℕ → Result CaseData Refusal → Type 0
-AdmitsDeeper m r w (Ok k) = (k ≡ case_of m r w) × IsTestedCase k
-AdmitsDeeper m r w (Err (refusal.Rows error)) = IsFirstFault (case_of m r w) error
-AdmitsDeeper m r w (Err _) = ⊥
-
 -- A report can be gone on from in this case: the case is that of its head at a greater depth.
-pub record CanGoOn (k : CaseData) (bound : Bound) (h : HeadData) (nodes : List ℕ) : Type 0 where
+pub record CanGoOn (k : CaseData) (h : HeadData) (nodes : List ℕ) : Type 0 where
   pub case : IsCase k
   pub deeper : k ≡ (deeper_head k.depth h).asked
   pub above : h.asked.depth ≤ k.depth
-  pub bound_is : bound ≡ h.bound
   pub old : IsOld h nodes
 
--- the bytes are the report, in this case, of a tree that refines that of a report
-abbrev pub IsRefinedText : CaseData → HeadData → List ℕ → List ℕ → Type 0
-IsRefinedText k h nodes bytes = (t : Tree) × IsOldTree h nodes t × ((refined : Tree) × IsRefined k (least_precision h) h.bound k.root 0 t refined × (bytes ≡ report_text k h.from h.bound refined))
-
--- such a text was appended, whole: there is one, and it was whichever is one
-abbrev pub IsRefinedWhole : Option (List ℕ) → Option (List ℕ) → CaseData → HeadData → List ℕ → Type 0
-IsRefinedWhole old new k h nodes = ((bytes : List ℕ) × IsRefinedText k h nodes bytes) × ((bytes : List ℕ) → IsRefinedText k h nodes bytes → Appends old new bytes)
-
--- the report was written, or there was no memory to begin, or a fault came and a front of it was
-abbrev pub WritesRefined : {K T : Type 0} → (K → Option (List ℕ)) → (K → ℕ) → CaseData → HeadData → List ℕ → K → K → Result T Refusal → Type 0
-WritesRefined taken counts k h nodes out out' (Ok _) = IsRefinedWhole (taken out) (taken out') k h nodes
-WritesRefined taken counts k h nodes out out' (Err refusal.WriteFault) = ((bytes : List ℕ) → IsRefinedText k h nodes bytes → AppendsFront (taken out) (taken out') bytes) × Rose (counts out) (counts out')
-WritesRefined taken counts k h nodes out out' (Err refusal.Memory) = out' ≡ out
-WritesRefined taken counts k h nodes out out' (Err _) = ⊥
+-- the bytes are those of the nodes, in this case, of a tree that refines that of a report
+abbrev pub AreRefinedNodes : CaseData → HeadData → List ℕ → List ℕ → Type 0
+AreRefinedNodes k h nodes bytes = (refined : Tree) × ((t : Tree) × IsOldTree h nodes t × IsRefined k (least_precision h) h.bound k.root 0 t refined) × (bytes ≡ concat (tree_lines h.from k.model.init refined))
 
 -- ---- a text as a base
 

@@ -10,7 +10,8 @@ use Rattle.lift_range.specs.Range.{Between}
 use Rattle.region_tree.specs.Nodes.{Node}
 use Rattle.region_tree.specs.Nodes.Node.{split, accept, reject, unknown}
 use Rattle.region_tree.specs.Right.{IsRightTree}
-use Rattle.cert_text.specs.Report.{report_text, split_line, at_lines, accept_line, reject_lines, unknown_line}
+use Rattle.plift_top.specs.Heads.{IsHeaded}
+use Rattle.cert_text.specs.Report.{head_lines, tree_lines, split_line, at_lines, accept_line, reject_lines, unknown_line}
 
 -- the least precision of a range, where one is told: from 1 to the case's own precision
 abbrev pub IsRange : CaseData → Option ℕ → Type 0
@@ -31,6 +32,10 @@ node_text k from (accept u x) = concat (at_lines from u) ++ accept_line x
 node_text k from (reject u r) = concat (at_lines from u) ++ concat (reject_lines k.model.init u r)
 node_text k from unknown = unknown_line
 
+-- the bytes are those of the nodes of a case's right tree for a range of precisions and a bound
+abbrev pub AreRightNodes : CaseData → Option ℕ → Bound → List ℕ → Type 0
+AreRightNodes k from bound bytes = (tree : Tree) × IsRightTree k (least k from) bound tree × (bytes ≡ concat (tree_lines from k.model.init tree))
+
 -- the bytes are the report of a case's right tree for a range of precisions and a bound
 abbrev pub IsRightReport : CaseData → Option ℕ → Bound → List ℕ → Type 0
-IsRightReport k from bound bytes = (tree : Tree) × IsRightTree k (least k from) bound tree × (bytes ≡ report_text k from bound tree)
+IsRightReport k from bound = IsHeaded (concat (head_lines k from bound)) (AreRightNodes k from bound)

@@ -1,8 +1,8 @@
 -- What the steps of a job answer, one behind another.
-use Rattle.std.specs.Prelude.{◌≡◌, ◌<◌, ℕ, List, [], length, true, Ok, Err, Result, ⊤}
+use Rattle.std.specs.Prelude.{◌≡◌, ℕ, List, [], length, true, Ok, Err, Result, ⊤}
 use Rattle.std.specs.declared.option.Option.{Option}
-use Rattle.lift_base.specs.Outside.{Rose, TakenHas}
-use Rattle.lift_base.specs.Laws.{Written}
+use Rattle.std.specs.Io.KnownBytes.{Appends}
+use Rattle.lift_base.specs.Outside.{Rose, AppendsFront}
 use Rattle.lift_grid.specs.Region.{Region, region}
 use Rattle.lift_grid.specs.Rectangle.{Spans}
 use Rattle.lift_grid.specs.Parts.{region_of}
@@ -11,13 +11,11 @@ use Rattle.lift_model.specs.Model.{ModelData}
 use Rattle.corner_lift.specs.Case.{CaseData, IsCase, case_of}
 use Rattle.lift_rows.specs.Admitted.{HasWeightsFromZero, HasSumsOfTotal}
 use Rattle.drn_read.specs.declared.error.DrnError.{DrnError}
-use Rattle.cert_check.specs.Source.{file_limit}
 use Rattle.plift_words.specs.Job.{VerifyData}
 use Rattle.plift_words.specs.Query.{is_cost}
 use Rattle.plift_words.specs.declared.query.Query.{Query}
-use Rattle.plift_top.specs.Asked.{AskedModel, cut, asked_model, verified_model}
-use Rattle.plift_top.specs.Reported.{CaseQuestion, IsReported, IsCutOff}
-use Rattle.plift_top.specs.Verify.{WasRead, IsTooWide, IsRefusedOver, IsAnswered, IsAnsweredInPart}
+use Rattle.plift_top.specs.Asked.{AskedModel, cut, asked_model}
+use Rattle.plift_top.specs.Verify.{IsTooWide, IsRefusedOver, IsAnswered, IsAnsweredInPart}
 use Rattle.plift_top.specs.declared.costed.CostedModel.{CostedModel}
 use Rattle.plift_top.specs.declared.refusal.Refusal.{Refusal}
 use Rattle.plift_top.specs.declared.refusal.Refusal.TheVariants as refusal
@@ -43,15 +41,6 @@ IsTextFault right (refusal.Model error) = right ≡ Err error
 IsTextFault right refusal.Memory = ⊤
 IsTextFault right _ = ⊥
 
--- reading the model that is verified for a job: the source was read to its end and its text stands for the model, or there is a cause
-abbrev pub ReadsModel : {S : Type 0} → (S → Option (List ℕ)) → (S → ℕ) → VerifyData → S → S → Result CostedModel Refusal → Type 0
-ReadsModel left faults job source source' (Ok m) = WasRead (IsModelOf job m) (left source) (left source')
-ReadsModel left faults job source source' (Err (refusal.Model error)) = WasRead (λ text. verified_model job text ≡ Err error) (left source) (left source')
-ReadsModel left faults job source source' (Err refusal.ReadFault) = Rose (faults source) (faults source')
-ReadsModel left faults job source source' (Err refusal.TooLong) = TakenHas (λ bytes. file_limit < length bytes) (left source) (left source')
-ReadsModel left faults job source source' (Err refusal.Memory) = ⊤
-ReadsModel left faults job source source' (Err _) = ⊥
-
 -- the job's region over these parameters: a rectangle over its grid, or the cause
 abbrev pub NamesRoot : VerifyData → List (List ℕ) → Result (Grid × Spans) Refusal → Type 0
 NamesRoot job names (Ok p) = region names job.depth job.region ≡ Ok (region_of p)
@@ -65,15 +54,12 @@ pub record IsTestedCase (k : CaseData) : Type 0 where
   pub weights : HasWeightsFromZero k
   pub sums : HasSumsOfTotal k
 
--- the rows of a model over a region: a case whose rows were tested, or the cause
-abbrev pub AdmitsCase : VerifyData → ModelData → Region → Result CaseData Refusal → Type 0
-AdmitsCase job m r (Ok k) = (k ≡ case_of m r job.precision) × IsTestedCase k
-AdmitsCase job m r (Err why) = IsRefusedOver job m (Ok r) why
-
--- the text of a case for what is asked was written, or a fault came and a front of it was
-abbrev pub WritesCase : {K : Type 0} → (K → Option (List ℕ)) → (K → ℕ) → CaseData → CaseQuestion → K → K → Written → Type 0
-WritesCase taken counts k q out out' (Ok _) = IsReported (taken out) (taken out') k q
-WritesCase taken counts k q out out' (Err _) = IsCutOff (taken out) (taken out') k q × Rose (counts out) (counts out')
+-- A text of which this holds was written, or there was no memory to begin, or a fault came and a front of it was: there is such a text, and it was whichever is one.
+abbrev pub WritesText : {K T : Type 0} → (K → Option (List ℕ)) → (K → ℕ) → (List ℕ → Type 0) → K → K → Result T Refusal → Type 0
+WritesText taken counts IsText out out' (Ok _) = ((bytes : List ℕ) × IsText bytes) × ((bytes : List ℕ) → IsText bytes → Appends (taken out) (taken out') bytes)
+WritesText taken counts IsText out out' (Err refusal.WriteFault) = ((bytes : List ℕ) → IsText bytes → AppendsFront (taken out) (taken out') bytes) × Rose (counts out) (counts out')
+WritesText taken counts IsText out out' (Err refusal.Memory) = out' ≡ out
+WritesText taken counts IsText out out' (Err _) = ⊥
 
 -- the answer to a case of a model was written, or there was no memory to begin, or its quotient is too wide, or a fault came and a front of it was
 abbrev pub AnswersCase : {K T : Type 0} → (K → Option (List ℕ)) → (K → ℕ) → Query → AskedModel → CaseData → K → K → Result T Refusal → Type 0

@@ -1,8 +1,6 @@
 -- What `verify`, `bounded`, `lumped`, `property` and `cost` answer, and what stands after them.
-use Rattle.std.specs.Prelude.{◌≡◌, ◌<◌, ◌≤◌, ℕ, Bool, true, false, List, length, Ok, Err, Result, ⊤}
+use Rattle.std.specs.Prelude.{◌≡◌, ℕ, Bool, true, false, List, Ok, Err, Result}
 use Rattle.std.specs.declared.option.Option.{Option}
-use Rattle.std.specs.Io.KnownBytes.{Consumes, IsAtEnd}
-use Rattle.lift_base.specs.Outside.{Rose, TakenHas}
 use Rattle.lift_model.specs.Model.{ModelData}
 use Rattle.lift_grid.specs.Region.{Region, region}
 use Rattle.lift_grid.specs.declared.error.RegionError.{RegionError}
@@ -18,6 +16,7 @@ use Rattle.plift_words.specs.Job.{VerifyData}
 use Rattle.plift_words.specs.declared.query.Query.{Query}
 use Rattle.plift_words.specs.declared.query.Query.TheVariants as query
 use Rattle.plift_top.specs.Asked.{AskedModel, cut, asked_model, verified_model}
+use Rattle.plift_top.specs.Reads.{WasRead, Command}
 use Rattle.plift_top.specs.Reported.{CaseQuestion, IsReported, IsCutOff, whole_question}
 use Rattle.plift_top.specs.Bounded.{within_question}
 use Rattle.plift_top.specs.Lumped.{IsLumpedCase, lumped_case, lumped_question}
@@ -25,13 +24,6 @@ use Rattle.plift_top.specs.Property.{property_question}
 use Rattle.plift_top.specs.Cost.{asked_cost, cost_question}
 use Rattle.plift_top.specs.declared.refusal.Refusal.{Refusal}
 use Rattle.plift_top.specs.declared.refusal.Refusal.TheVariants as refusal
-
--- A source was read to its end, and the text that it gave has P. Where the source doesn't tell its content, some text has it.
-pub record WasRead (P : List ℕ → Type 0) (old new : Option (List ℕ)) : Type 0 where
-  pub text : List ℕ
-  pub consumed : Consumes old new text
-  pub ended : IsAtEnd new
-  pub has : P text
 
 -- a chain is to be lumped, and the model is a decision process
 abbrev pub lacks_chain : Query → Kind → Bool
@@ -105,29 +97,12 @@ Reports old new job text = Makes (IsAnswered old new job.query) job text
 abbrev pub ReportsFront : Option (List ℕ) → Option (List ℕ) → VerifyData → List ℕ → Type 0
 ReportsFront old new job text = Makes (IsAnsweredInPart old new job.query) job text
 
--- why a job stopped before anything was written
-abbrev pub Stops : {S : Type 0} → (S → Option (List ℕ)) → (S → ℕ) → VerifyData → S → S → Refusal → Type 0
-Stops left faults job source source' refusal.ReadFault = Rose (faults source) (faults source')
-Stops left faults job source source' refusal.TooLong = TakenHas (λ bytes. file_limit < length bytes) (left source) (left source')
-Stops left faults job source source' refusal.Memory = ⊤
-Stops left faults job source source' (refusal.Usage f) = ⊥
-Stops left faults job source source' refusal.WriteFault = ⊥
-Stops left faults job source source' (refusal.Unsound error) = ⊥
-Stops left faults job source source' why = WasRead (IsRefused job why) (left source) (left source')
+-- why a job refuses a text
+abbrev pub Refuses : VerifyData → Refusal → List ℕ → Type 0
+Refuses job (refusal.Usage f) text = ⊥
+Refuses job (refusal.Unsound error) text = ⊥
+Refuses job why text = IsRefused job why text
 
--- What a job comes to: its answer is written, or there is a cause. The sink is as it was but for the answer or a front of it.
-abbrev pub Verifies : {S K T : Type 0} → (S → Option (List ℕ)) → (S → ℕ) → (K → Option (List ℕ)) → (K → ℕ) → VerifyData → S → S → K → K → Result T Refusal → Type 0
-Verifies left faults taken counts job source source' out out' (Ok _) =
-    WasRead (Reports (taken out) (taken out') job) (left source) (left source')
-Verifies left faults taken counts job source source' out out' (Err refusal.WriteFault) =
-    WasRead (ReportsFront (taken out) (taken out') job) (left source) (left source') × Rose (counts out) (counts out')
-Verifies left faults taken counts job source source' out out' (Err why) = Stops left faults job source source' why × (out' ≡ out)
-
--- more bytes than the limit were taken at TooLong, and only there
-abbrev pub KeepsWithin : {T : Type 0} → ℕ → Result T Refusal → Option (List ℕ) → Option (List ℕ) → Type 0
-KeepsWithin limit (Err refusal.TooLong) old new = TakenHas (λ bytes. limit < length bytes) old new
-KeepsWithin limit _ old new = TakenHas (λ bytes. length bytes ≤ limit) old new
-
--- the same of a text that is read whole
-abbrev pub KeepsLimit : {T : Type 0} → Result T Refusal → Option (List ℕ) → Option (List ℕ) → Type 0
-KeepsLimit result old new = KeepsWithin file_limit result old new
+-- a command that does a job: the answer is written
+abbrev pub verifying : VerifyData → Command
+verifying job = record { limit = file_limit; Done = λ old new. Reports old new job; CutOff = λ old new. ReportsFront old new job; Refuses = Refuses job; Knows = WasRead }

@@ -1,20 +1,28 @@
 // The text of a case for a number of steps, which is written while its tree is walked over.
-ghost use Rattle.std.specs.Prelude.{◌≡◌, ℕ};
+ghost use Rattle.std.specs.Prelude.{◌≡◌, ◌≤◌};
 ghost use Rattle.std.specs.List.{concat};
-ghost use Rattle.lift_base.specs.Outside.{Wrote, WroteSome};
+ghost use Rattle.lift_base.specs.Outside.{Wrote};
 ghost use Rattle.lift_model.specs.Links.{AreLinks};
 ghost use Rattle.lift_bounded.specs.Rooms.{IsMadeFor};
-ghost use Rattle.plift_top.specs.Bounded.{within_lines, bounded_head, IsBoundedText};
+ghost use Rattle.lift_bounded.specs.Text.{IsTreeText};
+ghost use Rattle.plift_words.specs.Values.{most_steps};
+ghost use Rattle.plift_words.specs.declared.query.Query.TheVariants as query;
+ghost use Rattle.plift_top.specs.Asked.{AskedModel};
+ghost use Rattle.plift_top.specs.Bounded.{within_lines, bounded_head};
+ghost use Rattle.plift_top.specs.Steps.{IsTestedCase, AnswersCase};
 
+use crate::asking::{Asking, answer};
 use crate::heads::write_scale;
-use crate::question::Question;
+use crate::refusal::Refusal;
 use cert_text::write_model;
-use corner_lift::Case;
-use lift_base::{
-    Sink, Telling, Word, WriteFault, tell_buffered, write_all, write_words, writes_in_turn,
-};
-use lift_bounded::{BoundedRoom, write_tree};
+use corner_lift::{Case, live_parameters_have_spans};
+use lift_base::{Sink, Word, WriteFault, write_all, write_words, writes_in_turn};
+use lift_bounded::{BoundedRoom, certificates_by_steps_decide, write_tree};
 use lift_cert::Bound;
+use lift_grid::trees_tile;
+use lift_model::Links;
+use region_tree::rectangles_at_depths;
+use std::alloc::{AllocError, Global};
 
 // Writes the bound and the number of steps.
 #[tactic(auto, unfolding(crate::specs::Bounded::within_lines))]
@@ -52,51 +60,54 @@ fn write_bounded_head<K: Sink>(
     write_scale(out, case)
 }
 
-// Writes the head, and then each node of the case's right tree for as many steps as the room was made for, as soon
-// as it is decided. Takes no memory.
-fn write_bounded<K: Sink>(
-    question: &Question,
-    room: &mut BoundedRoom,
-    out: &mut K,
-) -> Result<(), WriteFault>
-    requires links { AreLinks question.now.case.now.model question.now.links.now }
-    requires made { IsMadeFor question.now.case.now question.now.links.now room.old }
-    ensures { WroteSome (IsBoundedText question.now.case.now question.now.bound room.old.steps)
-        K.taken K.faults out.old out.new result }
-{
-    write_bounded_head(out, question.case, question.bound, room.steps())?;
-    write_tree(question.case, question.links, question.bound, room, out)
+/// What is asked of a case whose rows were tested: whether what is reached within so many steps stays within a bound.
+#[derive(Clone, Copy)]
+pub(crate) struct Within<'c, 'm> {
+    pub case: &'c Case<'m>,
+    pub links: &'c Links,
+    pub bound: Bound,
+    pub steps: u32,
 }
 
-// What is asked of a case, with what a walk over its tree for a number of steps needs.
-#[derive(Drop)]
-struct BoundedReport<'q, 'c, 'm, 'r> {
-    question: &'q Question<'c, 'm>,
-    room: &'r mut BoundedRoom,
-}
+impl<'c, 'm> Asking for Within<'c, 'm> {
+    type Room = BoundedRoom;
 
-impl<'q, 'c, 'm, 'r> Telling for BoundedReport<'q, 'c, 'm, 'r> {
-    ghost is_ready = { λ r. AreLinks r.question.now.case.now.model r.question.now.links.now
-        × IsMadeFor r.question.now.case.now r.question.now.links.now r.room.now };
+    ghost can = { λ q. AreLinks q.case.now.model q.links.now × (1 ≤ q.steps) × (q.steps ≤ most_steps) };
 
-    ghost is_text = { λ r bytes. IsBoundedText r.question.now.case.now r.question.now.bound r.room.now.steps bytes };
+    ghost is_made = { λ q room. IsMadeFor q.case.now q.links.now room × (room.steps ≡ q.steps) };
 
-    fn tell_to<K: Sink>(&mut self, out: &mut K) -> Result<(), WriteFault> {
-        write_bounded(self.question, self.room, out)
+    ghost head = { λ q. concat (bounded_head q.case.now q.bound q.steps) };
+
+    ghost are_nodes = { λ q. IsTreeText q.case.now q.bound q.steps q.case.now.root 0 };
+
+    fn make_room(&self, alloc: Global) -> Result<BoundedRoom, AllocError> {
+        BoundedRoom::make(alloc, self.case, self.links, self.steps)
+    }
+
+    fn write_head<K: Sink>(&self, out: &mut K) -> Result<(), WriteFault> {
+        write_bounded_head(out, self.case, self.bound, self.steps)
+    }
+
+    fn write_nodes<K: Sink>(&self, room: &mut BoundedRoom, out: &mut K) -> Result<(), WriteFault> {
+        write_tree(self.case, self.links, self.bound, room, out)
     }
 }
 
-/// Writes the text of a case for as many steps as the room was made for, by way of a buffer. Takes no memory.
-pub(crate) fn write_bounded_buffered<K: Sink>(
-    question: &Question,
-    room: &mut BoundedRoom,
+/// Takes all memory that is needed for a number of steps, and writes the text for them.
+pub(crate) fn answer_within<K: Sink>(
+    alloc: Global,
+    asked: &Within,
     out: &mut K,
-) -> Result<(), WriteFault>
-    requires links { AreLinks question.now.case.now.model question.now.links.now }
-    requires made { IsMadeFor question.now.case.now question.now.links.now room.old }
-    ensures { WroteSome (IsBoundedText question.now.case.now question.now.bound room.old.steps)
-        K.taken K.faults out.old out.new result }
+) -> Result<(), Refusal>
+    requires case { IsTestedCase asked.now.case.now }
+    requires links { AreLinks asked.now.case.now.model asked.now.links.now }
+    requires steps { (1 ≤ asked.now.steps) × (asked.now.steps ≤ most_steps) }
+    ensures { (a : AskedModel) → AnswersCase K.taken K.faults (query.Within asked.now.bound asked.now.steps) a
+        asked.now.case.now out.old out.new result }
 {
-    let mut report = BoundedReport { question, room };
-    tell_buffered(out, &mut report)
+    certificates_by_steps_decide();
+    rectangles_at_depths();
+    live_parameters_have_spans();
+    trees_tile();
+    answer(alloc, asked, out)
 }

@@ -1,8 +1,7 @@
 // Checks a report.
-ghost use Rattle.std.specs.Prelude.{◌≡◌};
 ghost use Rattle.lift_base.specs.Outside.{Wrote};
-ghost use Rattle.plift_top.specs.Check.{Checks, sound_line};
-ghost use Rattle.plift_top.specs.Verify.{KeepsWithin};
+ghost use Rattle.plift_top.specs.Check.{checking, sound_line};
+ghost use Rattle.plift_top.specs.Reads.{KeepsWithin, Reads};
 ghost use Rattle.cert_check.specs.Source.{report_limit};
 
 use crate::refusal::Refusal;
@@ -34,7 +33,7 @@ pub fn check_report<S: Source, K: Sink>(
     source: &mut S,
     out: &mut K,
 ) -> Result<(), Refusal>
-    ensures answer { Checks S.left S.faults K.taken K.faults
+    ensures answer { Reads S.left S.faults K.taken K.faults checking
         source.old source.new out.old out.new result }
     ensures limit { KeepsWithin report_limit result (S.left source.old) (S.left source.new) }
 {

@@ -1,19 +1,27 @@
 // The text of a case for a budget, which is written while its tree is walked over.
-ghost use Rattle.std.specs.Prelude.{◌≡◌, ◌++◌, ℕ, unsigned_abs, length};
+ghost use Rattle.std.specs.Prelude.{◌≡◌, ◌++◌, unsigned_abs, length};
 ghost use Rattle.std.specs.List.{concat, flat_map};
-ghost use Rattle.lift_base.specs.Outside.{Wrote, WroteSome};
+ghost use Rattle.lift_base.specs.Outside.{Wrote};
 ghost use Rattle.lift_cost.specs.Decided.{CanAskCost, asked};
 ghost use Rattle.lift_cost.specs.Rooms.{IsMadeFor};
+ghost use Rattle.lift_cost.specs.Text.{IsTreeText};
 ghost use Rattle.cert_text.specs.Report.{line, spaced};
-ghost use Rattle.plift_top.specs.Cost.{fraction_word, cost_word, cost_words, limit_lines, cost_head, IsCostText};
+ghost use Rattle.plift_words.specs.declared.query.Query.TheVariants as query;
+ghost use Rattle.plift_top.specs.Asked.{AskedModel, cut};
+ghost use Rattle.plift_top.specs.Cost.{fraction_word, cost_word, cost_words, limit_lines, cost_head};
+ghost use Rattle.plift_top.specs.Steps.{IsTestedCase, AnswersCase};
 
+use crate::asking::{Asking, answer};
 use crate::heads::write_scale;
+use crate::refusal::Refusal;
 use cert_text::write_model;
+use corner_lift::live_parameters_have_spans;
 use drn_read::Costs;
-use lift_base::{
-    Sink, Telling, Word, WriteFault, tell_buffered, write_all, write_words, writes_in_turn,
-};
-use lift_cost::{CostQuestion, CostRoom, write_tree};
+use lift_base::{Sink, Word, WriteFault, write_all, write_words, writes_in_turn};
+use lift_cost::{CostQuestion, CostRoom, cost_certificates_decide, write_tree};
+use lift_grid::trees_tile;
+use region_tree::rectangles_at_depths;
+use std::alloc::{AllocError, Global};
 
 // Writes a cost behind a space.
 fn write_cost<K: Sink>(out: &mut K, cost: (i64, i64)) -> Result<(), WriteFault>
@@ -98,49 +106,47 @@ fn write_cost_head<K: Sink>(out: &mut K, question: &CostQuestion) -> Result<(), 
     write_scale(out, question.case)
 }
 
-// Writes the head, and then each node of the case's right tree for what is asked, as soon as it is decided. Takes no
-// memory.
-fn write_payment<K: Sink>(
-    question: &CostQuestion,
-    room: &mut CostRoom,
-    out: &mut K,
-) -> Result<(), WriteFault>
-    requires can { CanAskCost question.now }
-    requires made { IsMadeFor question.now.case.now question.now.links.now room.old }
-    ensures { WroteSome (IsCostText question.now.case.now (asked question.now)) K.taken K.faults out.old out.new result }
-{
-    write_cost_head(out, question)?;
-    write_tree(question, room, out)
-}
+impl<'c, 'm> Asking for CostQuestion<'c, 'm> {
+    type Room = CostRoom;
 
-// What is asked of a case, with what a walk over its tree needs.
-#[derive(Drop)]
-struct CostReport<'q, 'c, 'm, 'r> {
-    question: &'q CostQuestion<'c, 'm>,
-    room: &'r mut CostRoom,
-}
+    ghost can = { CanAskCost };
 
-impl<'q, 'c, 'm, 'r> Telling for CostReport<'q, 'c, 'm, 'r> {
-    ghost is_ready = { λ r. CanAskCost r.question.now
-        × IsMadeFor r.question.now.case.now r.question.now.links.now r.room.now };
+    ghost is_made = { λ q. IsMadeFor q.case.now q.links.now };
 
-    ghost is_text = { λ r bytes. IsCostText r.question.now.case.now (asked r.question.now) bytes };
+    ghost head = { λ q. concat (cost_head q.case.now (asked q)) };
 
-    fn tell_to<K: Sink>(&mut self, out: &mut K) -> Result<(), WriteFault> {
-        write_payment(self.question, self.room, out)
+    ghost are_nodes = { λ q. IsTreeText q.case.now (asked q) q.case.now.root 0 };
+
+    fn make_room(&self, alloc: Global) -> Result<CostRoom, AllocError> {
+        CostRoom::make(alloc, self.case, self.links)
+    }
+
+    fn write_head<K: Sink>(&self, out: &mut K) -> Result<(), WriteFault> {
+        write_cost_head(out, self)
+    }
+
+    fn write_nodes<K: Sink>(&self, room: &mut CostRoom, out: &mut K) -> Result<(), WriteFault> {
+        write_tree(self, room, out)
     }
 }
 
-/// Writes the text of a case for a budget, by way of a buffer. Takes no memory.
-pub(crate) fn write_payment_buffered<K: Sink>(
+/// Takes all memory that is needed for a budget at a case whose rows were tested, and writes the text for it.
+pub(crate) fn answer_cost<K: Sink>(
+    alloc: Global,
     question: &CostQuestion,
-    room: &mut CostRoom,
     out: &mut K,
-) -> Result<(), WriteFault>
+) -> Result<(), Refusal>
+    requires case { IsTestedCase question.now.case.now }
     requires can { CanAskCost question.now }
-    requires made { IsMadeFor question.now.case.now question.now.links.now room.old }
-    ensures { WroteSome (IsCostText question.now.case.now (asked question.now)) K.taken K.faults out.old out.new result }
+    ensures { (a : AskedModel) → question.now.case.now.model ≡ cut a → question.now.costs.now ≡ a.costs
+        → AnswersCase K.taken K.faults
+        (query.Cost (record { cap = question.now.cap; budget = question.now.budget })) a question.now.case.now
+        out.old out.new result }
 {
-    let mut report = CostReport { question, room };
-    tell_buffered(out, &mut report)
+    question.costs.are_costs();
+    cost_certificates_decide();
+    rectangles_at_depths();
+    live_parameters_have_spans();
+    trees_tile();
+    answer(alloc, question, out)
 }

@@ -1,6 +1,7 @@
 //! The program: what its words ask for is done, and its status and its notes tell how it went.
 #![tactic(auto)]
 
+mod asking;
 mod bounded;
 mod checking;
 mod cost;
@@ -14,7 +15,6 @@ mod migrate;
 mod notes;
 mod program;
 mod property;
-mod question;
 mod refine;
 mod refusal;
 mod report;

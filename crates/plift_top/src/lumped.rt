@@ -2,13 +2,12 @@
 ghost use Rattle.std.specs.Prelude.{◌≡◌, None};
 ghost use Rattle.lift_model.specs.declared.kind.Kind.TheVariants.{Dtmc};
 ghost use Rattle.plift_words.specs.declared.query.Query.TheVariants as query;
-ghost use Rattle.plift_top.specs.Asked.{uncut};
+ghost use Rattle.plift_top.specs.Asked.{AskedModel};
 ghost use Rattle.plift_top.specs.Steps.{IsTestedCase, AnswersCase};
 ghost use Rattle.plift_top.specs.Lumped.{lumped_case};
 
-use crate::question::Question;
 use crate::refusal::Refusal;
-use crate::verify::write_whole;
+use crate::report::{Reach, answer_reach};
 use corner_lift::Case;
 use lift_base::Sink;
 use lift_cert::Bound;
@@ -26,17 +25,18 @@ fn write_quotient<K: Sink>(
     out: &mut K,
 ) -> Result<(), Refusal>
     requires { IsTestedCase (lumped_case case.now lumped.now) }
-    ensures { let k = lumped_case case.now lumped.now in
-        AnswersCase K.taken K.faults (query.Whole bound None) (uncut k.model) k out.old out.new result }
+    ensures { (a : AskedModel) → AnswersCase K.taken K.faults (query.Whole bound None) a
+        (lumped_case case.now lumped.now) out.old out.new result }
 {
     let quotient = Case::new(lumped.model(), case.root(), case.grid(), case.w());
     let links = Links::build(alloc, lumped.model())?;
-    let question = Question {
+    let reach = Reach {
         case: &quotient,
         links: &links,
         bound,
+        from: None,
     };
-    write_whole(alloc, &question, None, out)
+    answer_reach(alloc, &reach, out)
 }
 
 /// Lumps the chain of a case whose rows were tested, takes all memory that its quotient needs, and writes the report
@@ -49,7 +49,7 @@ pub(crate) fn write_lumped<K: Sink>(
 ) -> Result<(), Refusal>
     requires case { IsTestedCase case.now }
     requires chain { case.now.model.kind ≡ Dtmc }
-    ensures { AnswersCase K.taken K.faults (query.Lumped bound) (uncut case.now.model) case.now
+    ensures { (a : AskedModel) → AnswersCase K.taken K.faults (query.Lumped bound) a case.now
         out.old out.new result }
 {
     quotients_hold();

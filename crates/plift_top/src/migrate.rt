@@ -2,8 +2,8 @@
 ghost use Rattle.std.specs.Prelude.{◌≤◌, List, ℕ, length};
 ghost use Rattle.cert_check.specs.Source.{report_limit};
 ghost use Rattle.cert_text.specs.Migrated.{MigratesTo};
-ghost use Rattle.plift_top.specs.Migrate.{ChecksFirst, Migrates, MigratesText};
-ghost use Rattle.plift_top.specs.Verify.{KeepsLimit};
+ghost use Rattle.plift_top.specs.Migrate.{ChecksFirst, migrating};
+ghost use Rattle.plift_top.specs.Reads.{KeepsLimit, Reads, ReadsText};
 
 use crate::refusal::Refusal;
 use crate::verify::TEXT_LIMIT;
@@ -46,7 +46,7 @@ impl<'t> Telling for Migration<'t> {
 // written before the check is done, and from then on no memory is taken.
 fn migrate_whole<K: Sink>(alloc: Global, text: &[u8], out: &mut K) -> Result<(), Refusal>
     requires { length text.now ≤ report_limit }
-    ensures { MigratesText K.taken K.faults text.now out.old out.new result }
+    ensures { ReadsText K.taken K.faults migrating text.now out.old out.new result }
 {
     sound_files_migrate();
     check_first(alloc, text)?;
@@ -60,7 +60,7 @@ pub fn migrate<S: Source, K: Sink>(
     source: &mut S,
     out: &mut K,
 ) -> Result<(), Refusal>
-    ensures answer { Migrates S.left S.faults K.taken K.faults
+    ensures answer { Reads S.left S.faults K.taken K.faults migrating
         source.old source.new out.old out.new result }
     ensures limit { KeepsLimit result (S.left source.old) (S.left source.new) }
 {

@@ -1,22 +1,29 @@
 // The text of a case for a property, which is written while its tree is walked over.
-ghost use Rattle.std.specs.Prelude.{◌≡◌, None, ℕ};
+ghost use Rattle.std.specs.Prelude.{◌≡◌, None};
 ghost use Rattle.std.specs.List.{concat};
-ghost use Rattle.lift_base.specs.Outside.{Wrote, WroteSome};
+ghost use Rattle.lift_base.specs.Outside.{Wrote};
 ghost use Rattle.lift_model.specs.Links.{AreLinks};
 ghost use Rattle.region_tree.specs.Rooms.{IsMadeFor};
 ghost use Rattle.property_text.specs.Grammar.{op_text};
-ghost use Rattle.plift_top.specs.Property.{property_lines, property_head, IsPropertyText};
+ghost use Rattle.property_tree.specs.Text.{IsTreeText};
+ghost use Rattle.plift_words.specs.declared.query.Query.TheVariants as query;
+ghost use Rattle.plift_top.specs.Asked.{AskedModel, cut};
+ghost use Rattle.plift_top.specs.Property.{property_lines, property_head};
+ghost use Rattle.plift_top.specs.Steps.{IsTestedCase, AnswersCase};
 
+use crate::asking::{Asking, answer};
 use crate::heads::write_scale;
+use crate::refusal::Refusal;
 use cert_text::write_model;
-use corner_lift::Case;
-use lift_base::{
-    Sink, Telling, Word, WriteFault, tell_buffered, write_all, write_words, writes_in_turn,
-};
+use corner_lift::{Case, live_parameters_have_spans};
+use lift_base::{Sink, Word, WriteFault, write_all, write_words, writes_in_turn};
 use lift_cert::Bound;
-use property_text::Op;
+use lift_dual::until_is_bounded;
+use lift_grid::trees_tile;
+use property_text::{Op, until_is_reach};
 use property_tree::{Question, write_tree};
-use region_tree::Room;
+use region_tree::{Room, rectangles_at_depths};
+use std::alloc::{AllocError, Global};
 
 // A comparison as it is written.
 fn op_text(op: Op) -> &'static [u8]
@@ -65,53 +72,47 @@ fn write_property_head<K: Sink>(
     write_scale(out, case)
 }
 
-// Writes the head, and then each node of the case's right tree for what is asked, as soon as it is decided. Takes no
-// memory.
-fn write_property<K: Sink>(
-    question: &Question,
-    room: &mut Room,
-    out: &mut K,
-) -> Result<(), WriteFault>
-    requires links { AreLinks question.now.case.now.model question.now.links.now }
-    requires made { IsMadeFor question.now.case.now question.now.links.now room.old }
-    requires from { question.now.from ≡ None }
-    ensures { WroteSome (IsPropertyText question.now.case.now question.now.op question.now.bound)
-        K.taken K.faults out.old out.new result }
-{
-    write_property_head(out, question.case, question.op, question.bound)?;
-    write_tree(question, room, out)
-}
+impl<'c, 'm> Asking for Question<'c, 'm> {
+    type Room = Room;
 
-// What is asked of a case, with what a walk over its tree needs.
-#[derive(Drop)]
-struct PropertyReport<'q, 'c, 'm, 'r> {
-    question: &'q Question<'c, 'm>,
-    room: &'r mut Room,
-}
+    ghost can = { λ q. AreLinks q.case.now.model q.links.now × (q.from ≡ None) };
 
-impl<'q, 'c, 'm, 'r> Telling for PropertyReport<'q, 'c, 'm, 'r> {
-    ghost is_ready = { λ r. AreLinks r.question.now.case.now.model r.question.now.links.now
-        × IsMadeFor r.question.now.case.now r.question.now.links.now r.room.now × (r.question.now.from ≡ None) };
+    ghost is_made = { λ q. IsMadeFor q.case.now q.links.now };
 
-    ghost is_text = { λ r bytes. IsPropertyText r.question.now.case.now r.question.now.op r.question.now.bound bytes };
+    ghost head = { λ q. concat (property_head q.case.now q.op q.bound) };
 
-    fn tell_to<K: Sink>(&mut self, out: &mut K) -> Result<(), WriteFault> {
-        write_property(self.question, self.room, out)
+    ghost are_nodes = { λ q. IsTreeText q.case.now q.op q.bound q.case.now.root 0 };
+
+    fn make_room(&self, alloc: Global) -> Result<Room, AllocError> {
+        Room::make(alloc, self.case, self.links)
+    }
+
+    fn write_head<K: Sink>(&self, out: &mut K) -> Result<(), WriteFault> {
+        write_property_head(out, self.case, self.op, self.bound)
+    }
+
+    fn write_nodes<K: Sink>(&self, room: &mut Room, out: &mut K) -> Result<(), WriteFault> {
+        write_tree(self, room, out)
     }
 }
 
-/// Writes the text of a case for a property, by way of a buffer. Takes no memory.
-pub(crate) fn write_property_buffered<K: Sink>(
-    question: &Question,
-    room: &mut Room,
+/// Takes all memory that is needed for a property of a case whose rows were tested, and writes the text for it.
+pub(crate) fn answer_property<K: Sink>(
+    alloc: Global,
+    asked: &Question,
     out: &mut K,
-) -> Result<(), WriteFault>
-    requires links { AreLinks question.now.case.now.model question.now.links.now }
-    requires made { IsMadeFor question.now.case.now question.now.links.now room.old }
-    requires from { question.now.from ≡ None }
-    ensures { WroteSome (IsPropertyText question.now.case.now question.now.op question.now.bound)
-        K.taken K.faults out.old out.new result }
+) -> Result<(), Refusal>
+    requires case { IsTestedCase asked.now.case.now }
+    requires links { AreLinks asked.now.case.now.model asked.now.links.now }
+    requires from { asked.now.from ≡ None }
+    ensures { (a : AskedModel) → asked.now.case.now.model ≡ cut a
+        → AnswersCase K.taken K.faults (query.Property asked.now.bound asked.now.op) a asked.now.case.now
+        out.old out.new result }
 {
-    let mut report = PropertyReport { question, room };
-    tell_buffered(out, &mut report)
+    until_is_bounded();
+    until_is_reach();
+    rectangles_at_depths();
+    live_parameters_have_spans();
+    trees_tile();
+    answer(alloc, asked, out)
 }

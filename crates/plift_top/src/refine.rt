@@ -1,40 +1,35 @@
 // Goes on from a report to a greater depth.
-ghost use Rattle.std.specs.Prelude.{◌≡◌, ◌≤◌, ◌<◌, ◌^◌, IfOk, length};
-ghost use Rattle.lift_base.specs.Outside.{WroteSome};
-ghost use Rattle.lift_grid.specs.Parts.{region_of};
+ghost use Rattle.std.specs.Prelude.{◌≡◌, ◌≤◌, ◌<◌, ◌++◌, List, IfOk, length};
+ghost use Rattle.std.specs.List.{concat};
 ghost use Rattle.lift_grid.specs.Rectangle.{IsOnGrid, most_halvings};
 ghost use Rattle.lift_grid.specs.Tree.{Tree};
 ghost use Rattle.lift_model.specs.Links.{AreLinks};
-ghost use Rattle.region_tree.specs.Bases.{IsRefined};
 ghost use Rattle.region_tree.specs.Rooms.{IsMadeFor};
-ghost use Rattle.region_tree.specs.Visits.{Shows};
 ghost use Rattle.cert_text.specs.Cut.{top_bytes};
-ghost use Rattle.cert_text.specs.Forms.{IsHead};
-ghost use Rattle.cert_text.specs.Head.{least_precision};
+ghost use Rattle.cert_text.specs.Report.{region_lines};
 ghost use Rattle.plift_top.specs.RightReport.{node_text};
-ghost use Rattle.plift_top.specs.Refine.{AdmitsDeeper, CanGoOn, GivesRegion, IsAhead, IsOld, IsOldTree, IsRefinedText};
-ghost use Rattle.plift_top.specs.Refine.{RefinesOld, RefinesReport, RefinesText, WritesRefined};
-ghost use Rattle.plift_top.specs.Steps.{IsTestedCase};
-ghost use Rattle.plift_top.specs.Verify.{KeepsLimit};
-ghost use Rattle.cert_check.specs.Source.{file_limit, report_limit};
+ghost use Rattle.plift_top.specs.Refine.{AreRefinedNodes, CanGoOn, GivesRegion, IsAhead, IsOld, IsOldTree};
+ghost use Rattle.plift_top.specs.Refine.{RefinesOld, refining};
+ghost use Rattle.plift_top.specs.Reads.{KeepsLimit, Reads, ReadsText};
+ghost use Rattle.cert_check.specs.Source.{file_limit};
 
+use crate::asking::{Asking, answer};
 use crate::laws::refined_reports_are_sound;
-use crate::question::Question;
 use crate::refusal::Refusal;
-use crate::report::Reporter;
+use crate::report::{Reporter, written};
 use crate::verify::TEXT_LIMIT;
 use cert_check::{SoundText, check_parts};
 use cert_text::{Head, NodeText, cut_node, texts_tell_one_report, write_head_below};
 use corner_lift::Case;
-use lift_base::{Sink, Source, Telling, WriteFault, read_all, tell_buffered, writes_in_turn};
+use lift_base::{Sink, Source, WriteFault, read_all};
 use lift_finer::finer_region;
 use lift_grid::{Grid, Rect};
 use lift_model::Links;
 use lift_refine::bases_are_gone_on_from;
 use lift_rows::{admit, admit_linked};
 use plift_words::{Field, RefineJob};
-use region_tree::{Base, Given, Room, Seen, rectangles_at_depths};
-use std::alloc::Global;
+use region_tree::{Base, Given, Room, rectangles_at_depths};
+use std::alloc::{AllocError, Global};
 
 /// Gives the nodes of a report's text.
 #[derive(Drop)]
@@ -83,106 +78,60 @@ struct Old<'t, 'h> {
     nodes: &'t [u8],
 }
 
-// Walks over a tree that refines the one of a report, and writes the lines of its nodes.
-fn write_tree<K: Sink>(question: &Question, old: &Old, room: &mut Room, out: &mut K) -> Seen
-    requires links { AreLinks question.now.case.now.model question.now.links.now }
-    requires made { IsMadeFor question.now.case.now question.now.links.now room.old }
-    requires can { CanGoOn question.now.case.now question.now.bound old.now.head.now old.now.nodes.now }
-    ensures { (t : Tree) → IsOldTree old.now.head.now old.now.nodes.now t → Shows
-        (λ refined. IsRefined question.now.case.now (least_precision old.now.head.now) question.now.bound
-        question.now.case.now.root 0 t refined)
-        K.taken K.faults (node_text question.now.case.now old.now.head.now.from) out.old out.new result }
-{
-    bases_are_gone_on_from();
-    rectangles_at_depths();
-    let (case, links, bound) = (question.case, question.links, question.bound);
-    let head = old.head;
-    let _ = head.w();
-    let mut base = TextBase {
-        text: old.nodes,
-        lines: old.nodes,
-        head,
-    };
-    let mut reporter = Reporter {
-        out,
-        case,
-        from: head.reported_from(),
-    };
-    region_tree::refine(
-        case,
-        links,
-        bound,
-        head.from(),
-        room,
-        &mut base,
-        &mut reporter,
-    )
-}
-
-// Writes the head of a case, whose top is that of the old one, and then the nodes of a tree that refines the one of a report.
-fn write_text<K: Sink>(
-    question: &Question,
-    old: &Old,
-    room: &mut Room,
-    out: &mut K,
-) -> Result<(), WriteFault>
-    requires links { AreLinks question.now.case.now.model question.now.links.now }
-    requires made { IsMadeFor question.now.case.now question.now.links.now room.old }
-    requires can { CanGoOn question.now.case.now question.now.bound old.now.head.now old.now.nodes.now }
-    requires top { old.now.top.now ≡ top_bytes old.now.head.now }
-    ensures { WroteSome (IsRefinedText question.now.case.now old.now.head.now old.now.nodes.now)
-        K.taken K.faults out.old out.new result }
-{
-    writes_in_turn::<K>();
-    write_head_below(out, old.top, question.case)?;
-    match write_tree(question, old, room, out) {
-        Seen::Kept => Ok(()),
-        Seen::Failed => Err(WriteFault),
-    }
-}
-
-// What is asked of a case, and the report that is gone on from, with what a walk needs.
+// What is asked of a case, and the report that is gone on from.
 #[derive(Drop)]
-struct Refinement<'q, 'c, 'm, 't, 'h, 'r> {
-    question: &'q Question<'c, 'm>,
+struct Refinement<'c, 'm, 't, 'h> {
+    case: &'c Case<'m>,
+    links: &'c Links,
     old: Old<'t, 'h>,
-    room: &'r mut Room,
 }
 
-impl<'q, 'c, 'm, 't, 'h, 'r> Telling for Refinement<'q, 'c, 'm, 't, 'h, 'r> {
-    ghost is_ready = { λ r. AreLinks r.question.now.case.now.model r.question.now.links.now
-        × IsMadeFor r.question.now.case.now r.question.now.links.now r.room.now
-        × CanGoOn r.question.now.case.now r.question.now.bound r.old.head.now r.old.nodes.now
-        × (r.old.top.now ≡ top_bytes r.old.head.now) };
+impl<'c, 'm, 't, 'h> Asking for Refinement<'c, 'm, 't, 'h> {
+    type Room = Room;
 
-    ghost is_text = { λ r bytes. IsRefinedText r.question.now.case.now r.old.head.now r.old.nodes.now bytes };
+    ghost can = { λ r. AreLinks r.case.now.model r.links.now × CanGoOn r.case.now r.old.head.now r.old.nodes.now };
 
-    fn tell_to<K: Sink>(&mut self, out: &mut K) -> Result<(), WriteFault> {
-        write_text(self.question, &self.old, self.room, out)
+    ghost is_made = { λ r. IsMadeFor r.case.now r.links.now };
+
+    ghost head = { λ r. r.old.top.now ++ concat (region_lines r.case.now) };
+
+    ghost are_nodes = { λ r. AreRefinedNodes r.case.now r.old.head.now r.old.nodes.now };
+
+    fn make_room(&self, alloc: Global) -> Result<Room, AllocError> {
+        Room::make(alloc, self.case, self.links)
     }
-}
 
-// Takes all memory that is needed to go on from a report, and writes the new one. Nothing is written before.
-fn write_refined<K: Sink>(
-    alloc: Global,
-    question: &Question,
-    old: Old,
-    out: &mut K,
-) -> Result<(), Refusal>
-    requires links { AreLinks question.now.case.now.model question.now.links.now }
-    requires can { CanGoOn question.now.case.now question.now.bound old.head.now old.nodes.now }
-    requires top { old.top.now ≡ top_bytes old.head.now }
-    ensures { WritesRefined K.taken K.faults question.now.case.now old.entry.head.now old.entry.nodes.now out.old out.new result }
-{
-    let mut room = Room::make(alloc, question.case, question.links)?;
-    let mut refinement = Refinement {
-        question,
-        old,
-        room: &mut room,
-    };
-    let written = tell_buffered(out, &mut refinement);
-    drop(room);
-    Ok(written?)
+    fn write_head<K: Sink>(&self, out: &mut K) -> Result<(), WriteFault> {
+        write_head_below(out, self.old.top, self.case)
+    }
+
+    // Walks over a tree that refines the one of a report, and writes the lines of its nodes.
+    fn write_nodes<K: Sink>(&self, room: &mut Room, out: &mut K) -> Result<(), WriteFault> {
+        bases_are_gone_on_from();
+        rectangles_at_depths();
+        let Refinement { case, links, old } = self;
+        let head = old.head;
+        let mut base = TextBase {
+            text: old.nodes,
+            lines: old.nodes,
+            head,
+        };
+        let mut reporter = Reporter {
+            out,
+            case,
+            from: head.reported_from(),
+        };
+        let seen = region_tree::refine(
+            case,
+            links,
+            head.bound(),
+            head.from(),
+            room,
+            &mut base,
+            &mut reporter,
+        );
+        written(seen)
+    }
 }
 
 // The region of a report, over the grid of a greater depth.
@@ -202,33 +151,6 @@ fn deeper_region(alloc: Global, head: &Head, depth: u32) -> Result<(Grid, Rect),
     }
 }
 
-// The case of a report's model over such a region, where all its rows are admitted.
-fn case_of<'m>(head: &'m Head, root: &'m Rect, grid: Grid) -> Result<Case<'m>, Refusal>
-    requires grid { IsOnGrid grid.d grid.depth (length head.now.asked.model.names) root.now }
-    requires depth { grid.depth ≤ most_halvings }
-    ensures { AdmitsDeeper head.now.asked.model (region_of (grid, root.now)) head.now.asked.w result }
-{
-    let _ = head.w();
-    let case = admit(head.model(), root, grid, head.w())?;
-    Ok(case)
-}
-
-// The same by the model's links: of rows with the same polynomials one is tested.
-fn linked_case_of<'m>(
-    head: &'m Head,
-    root: &'m Rect,
-    grid: Grid,
-    links: &Links,
-) -> Result<Case<'m>, Refusal>
-    requires grid { IsOnGrid grid.d grid.depth (length head.now.asked.model.names) root.now }
-    requires depth { grid.depth ≤ most_halvings }
-    requires links { AreLinks head.now.asked.model links.now }
-    ensures { AdmitsDeeper head.now.asked.model (region_of (grid, root.now)) head.now.asked.w result }
-{
-    let case = admit_linked(head.model(), root, grid, head.w(), links)?;
-    Ok(case)
-}
-
 // Goes on from a report whose head was read.
 fn refine_old<K: Sink>(alloc: Global, job: RefineJob, old: Old, out: &mut K) -> Result<(), Refusal>
     requires old { IsOld old.head.now old.nodes.now }
@@ -242,18 +164,18 @@ fn refine_old<K: Sink>(alloc: Global, job: RefineJob, old: Old, out: &mut K) -> 
     let (grid, root) = deeper_region(alloc, head, job.depth)?;
     let Ok(links) = Links::build(alloc, head.model()) else {
         // A row that isn't admitted is told all the same.
-        case_of(head, &root, grid)?;
+        admit(head.model(), &root, grid, head.w())?;
         return Err(Refusal::Memory);
     };
-    let case = linked_case_of(head, &root, grid, &links)?;
-    let question = Question {
+    let case = admit_linked(head.model(), &root, grid, head.w(), &links)?;
+    let refinement = Refinement {
         case: &case,
         links: &links,
-        bound: head.bound(),
+        old,
     };
-    let written = write_refined(alloc, &question, old, out);
+    let answered = answer(alloc, &refinement, out);
     drop(links);
-    written
+    answered
 }
 
 // Checks a text as a report, and goes on from it. Nothing is written before the check is done.
@@ -264,7 +186,7 @@ fn refine_text<K: Sink>(
     out: &mut K,
 ) -> Result<(), Refusal>
     requires { length text.now ≤ file_limit }
-    ensures { RefinesText K.taken K.faults job.depth text.now out.old out.new result }
+    ensures { ReadsText K.taken K.faults (refining job.depth) text.now out.old out.new result }
 {
     let SoundText {
         head,
@@ -291,7 +213,7 @@ pub fn refine<S: Source, K: Sink>(
     source: &mut S,
     out: &mut K,
 ) -> Result<(), Refusal>
-    ensures answer { RefinesReport S.left S.faults K.taken K.faults job.depth
+    ensures answer { Reads S.left S.faults K.taken K.faults (refining job.depth)
         source.old source.new out.old out.new result }
     ensures limit { KeepsLimit result (S.left source.old) (S.left source.new) }
 {

@@ -1,21 +1,25 @@
 // The report of a case, which is written while the tree is walked over.
-ghost use Rattle.std.specs.Prelude.{◌≡◌, List, ℕ, MatchResult, length};
+ghost use Rattle.std.specs.Prelude.{◌≡◌, List, MatchResult, length};
 ghost use Rattle.std.specs.List.{concat};
 ghost use Rattle.lift_base.specs.Outside.{Wrote, WroteSome};
 ghost use Rattle.lift_model.specs.Links.{AreLinks};
 ghost use Rattle.region_tree.specs.Rooms.{IsAsMade, IsMadeFor};
-ghost use Rattle.region_tree.specs.Visits.{Walks};
 ghost use Rattle.region_tree.specs.declared.visitor.Seen.TheVariants.{Failed, Kept};
-ghost use Rattle.cert_text.specs.Report.{at_lines};
-ghost use Rattle.plift_top.specs.RightReport.{IsRange, IsRightReport, least, node_text};
+ghost use Rattle.cert_text.specs.Report.{at_lines, head_lines};
+ghost use Rattle.plift_words.specs.declared.query.Query.TheVariants as query;
+ghost use Rattle.plift_top.specs.Asked.{AskedModel};
+ghost use Rattle.plift_top.specs.RightReport.{IsRange, AreRightNodes, IsRightReport, node_text};
+ghost use Rattle.plift_top.specs.Steps.{IsTestedCase, AnswersCase};
 
-use crate::question::Question;
+use crate::asking::{Asking, answer};
+use crate::refusal::Refusal;
 use cert_text::{write_accept, write_at, write_head, write_reject, write_split, write_unknown};
-use corner_lift::Case;
-use lift_base::{Sink, Telling, WriteFault, tell_buffered, write_all, writes_in_turn};
-use lift_cert::Bound;
+use corner_lift::{Case, lower_precisions_are_cases};
+use lift_base::{Sink, WriteFault, write_all, writes_in_turn};
+use lift_cert::{Bound, certificates_decide, rejecting_certificates_reach};
 use lift_model::Links;
-use region_tree::{Copier, Room, Seen, Visitor, walk};
+use region_tree::{Copier, Room, Seen, Visitor, rectangles_at_depths, right_trees_tile, walk};
+use std::alloc::{AllocError, Global};
 
 /// Writes the lines of each node of a case's tree.
 #[derive(Drop)]
@@ -94,41 +98,45 @@ impl<'r, 'c, 'm, K: Sink> Copier for Reporter<'r, 'c, 'm, K> {
     }
 }
 
-// Walks over the tree of a case for its range of precisions and writes the lines of its nodes.
-fn write_tree<K: Sink>(question: &Question, from: Option<u32>, room: &mut Room, out: &mut K) -> Seen
-    requires links { AreLinks question.now.case.now.model question.now.links.now }
-    requires from { IsRange question.now.case.now from }
-    requires made { IsMadeFor question.now.case.now question.now.links.now room.old }
-    ensures walks { Walks question.now.case.now (least question.now.case.now from) question.now.case.now.root
-        question.now.bound 0 K.taken K.faults (node_text question.now.case.now from) out.old out.new result }
-    ensures room { IsAsMade room.old room.new }
+/// What a walk wrote, by what its visitor answered last.
+pub(crate) fn written(seen: Seen) -> Result<(), WriteFault>
+    ensures { MatchResult result (λ _. seen ≡ Kept) (λ _. seen ≡ Failed) }
 {
-    let (case, links, bound) = (question.case, question.links, question.bound);
-    let least = from.unwrap_or(case.w());
-    let mut reporter = Reporter { out, case, from };
-    walk(case, links, bound, least, room, &mut reporter)
-}
-
-// Writes what `write_report` does.
-fn write_text<K: Sink>(
-    question: &Question,
-    from: Option<u32>,
-    room: &mut Room,
-    out: &mut K,
-) -> Result<(), WriteFault>
-    requires links { AreLinks question.now.case.now.model question.now.links.now }
-    requires from { IsRange question.now.case.now from }
-    requires made { IsMadeFor question.now.case.now question.now.links.now room.old }
-    ensures wrote { WroteSome (IsRightReport question.now.case.now from question.now.bound)
-        K.taken K.faults out.old out.new result }
-    ensures room { IsAsMade room.old room.new }
-{
-    writes_in_turn::<K>();
-    write_head(out, question.case, question.bound, from)?;
-    match write_tree(question, from, room, out) {
+    match seen {
         Seen::Kept => Ok(()),
         Seen::Failed => Err(WriteFault),
     }
+}
+
+/// What is asked of a case: whether what is reached stays within a bound.
+#[derive(Clone, Copy)]
+pub(crate) struct Reach<'c, 'm> {
+    pub case: &'c Case<'m>,
+    /// The links of the case's model.
+    pub links: &'c Links,
+    pub bound: Bound,
+    /// The least precision of the range, where one is told.
+    pub from: Option<u32>,
+}
+
+// Walks over the tree of a case for its range of precisions and writes the lines of its nodes.
+fn write_tree<K: Sink>(asked: &Reach, room: &mut Room, out: &mut K) -> Result<(), WriteFault>
+    requires links { AreLinks asked.now.case.now.model asked.now.links.now }
+    requires from { IsRange asked.now.case.now asked.now.from }
+    requires made { IsMadeFor asked.now.case.now asked.now.links.now room.old }
+    ensures nodes { WroteSome (AreRightNodes asked.now.case.now asked.now.from asked.now.bound)
+        K.taken K.faults out.old out.new result }
+    ensures room { IsAsMade room.old room.new }
+{
+    let Reach {
+        case,
+        links,
+        bound,
+        from,
+    } = *asked;
+    let least = from.unwrap_or(case.w());
+    let mut reporter = Reporter { out, case, from };
+    written(walk(case, links, bound, least, room, &mut reporter))
 }
 
 /// Writes the report of a case: its head, and then each node of its right tree, in preorder, as soon
@@ -153,51 +161,56 @@ pub fn write_report<K: Sink>(
         K.taken K.faults out.old out.new result }
     ensures room { IsAsMade room.old room.new }
 {
-    let question = Question {
+    write_head(out, case, bound, from)?;
+    let reach = Reach {
         case: &*case,
         links: &*links,
         bound,
+        from,
     };
-    write_text(&question, from, room, out)
+    write_tree(&reach, room, out)
 }
 
-// What is asked of a case, with what a walk over its tree needs.
-#[derive(Drop)]
-struct Report<'q, 'c, 'm, 'r> {
-    question: &'q Question<'c, 'm>,
-    from: Option<u32>,
-    room: &'r mut Room,
-}
+impl<'c, 'm> Asking for Reach<'c, 'm> {
+    type Room = Room;
 
-impl<'q, 'c, 'm, 'r> Telling for Report<'q, 'c, 'm, 'r> {
-    ghost is_ready = { λ r. AreLinks r.question.now.case.now.model r.question.now.links.now
-        × IsRange r.question.now.case.now r.from
-        × IsMadeFor r.question.now.case.now r.question.now.links.now r.room.now };
+    ghost can = { λ q. AreLinks q.case.now.model q.links.now × IsRange q.case.now q.from };
 
-    ghost is_text = { λ r bytes. IsRightReport r.question.now.case.now r.from r.question.now.bound bytes };
+    ghost is_made = { λ q. IsMadeFor q.case.now q.links.now };
 
-    fn tell_to<K: Sink>(&mut self, out: &mut K) -> Result<(), WriteFault> {
-        write_text(self.question, self.from, self.room, out)
+    ghost head = { λ q. concat (head_lines q.case.now q.from q.bound) };
+
+    ghost are_nodes = { λ q. AreRightNodes q.case.now q.from q.bound };
+
+    fn make_room(&self, alloc: Global) -> Result<Room, AllocError> {
+        Room::make(alloc, self.case, self.links)
+    }
+
+    fn write_head<K: Sink>(&self, out: &mut K) -> Result<(), WriteFault> {
+        write_head(out, self.case, self.bound, self.from)
+    }
+
+    fn write_nodes<K: Sink>(&self, room: &mut Room, out: &mut K) -> Result<(), WriteFault> {
+        write_tree(self, room, out)
     }
 }
 
-/// Writes the report of a case by way of a buffer. Takes no memory.
-pub(crate) fn write_report_buffered<K: Sink>(
-    question: &Question,
-    from: Option<u32>,
-    room: &mut Room,
+/// Takes all memory that is needed for a bound at a case whose rows were tested, and writes its report.
+pub(crate) fn answer_reach<K: Sink>(
+    alloc: Global,
+    asked: &Reach,
     out: &mut K,
-) -> Result<(), WriteFault>
-    requires links { AreLinks question.now.case.now.model question.now.links.now }
-    requires from { IsRange question.now.case.now from }
-    requires made { IsMadeFor question.now.case.now question.now.links.now room.old }
-    ensures { WroteSome (IsRightReport question.now.case.now from question.now.bound)
-        K.taken K.faults out.old out.new result }
+) -> Result<(), Refusal>
+    requires case { IsTestedCase asked.now.case.now }
+    requires links { AreLinks asked.now.case.now.model asked.now.links.now }
+    requires from { IsRange asked.now.case.now asked.now.from }
+    ensures { (a : AskedModel) → AnswersCase K.taken K.faults (query.Whole asked.now.bound asked.now.from) a
+        asked.now.case.now out.old out.new result }
 {
-    let mut report = Report {
-        question,
-        from,
-        room,
-    };
-    tell_buffered(out, &mut report)
+    certificates_decide();
+    rejecting_certificates_reach();
+    lower_precisions_are_cases();
+    rectangles_at_depths();
+    right_trees_tile();
+    answer(alloc, asked, out)
 }

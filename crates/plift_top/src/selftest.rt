@@ -5,7 +5,8 @@ ghost use Rattle.model_gen.specs.Ladder.{ladder_text};
 ghost use Rattle.cert_check.specs.Sound.{IsSoundFile};
 ghost use Rattle.cert_check.specs.declared.summary.Summary.{Summary};
 ghost use Rattle.cert_check.specs.Source.{file_limit};
-ghost use Rattle.plift_top.specs.Verify.{Verifies};
+ghost use Rattle.plift_top.specs.Reads.{Reads};
+ghost use Rattle.plift_top.specs.Verify.{verifying};
 ghost use Rattle.plift_top.specs.Selftest.{ladder_job, tested_line, GivesWithin};
 ghost use Rattle.plift_top.specs.Selftest.{ReportsLadder, Selftests};
 ghost use Rattle.plift_top.specs.declared.refusal.Refusal.TheVariants.{Memory};
@@ -57,7 +58,7 @@ fn verify_ladder(
     source: &mut SureSource,
     report: &mut LimitedText<REPORT_ROOM>,
 ) -> Result<(), Refusal>
-    ensures { Verifies (λ s. Some s) (λ s. 0) (λ t. Some t.bytes.items) (λ t. t.faults) ladder_job
+    ensures { Reads (λ s. Some s) (λ s. 0) (λ t. Some t.bytes.items) (λ t. t.faults) (verifying ladder_job)
         source.old source.new report.old report.new result }
 {
     let job = VerifyJob {

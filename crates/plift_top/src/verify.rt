@@ -5,47 +5,33 @@ ghost use Rattle.std.specs.Option.{option_copied};
 ghost use Rattle.lift_grid.specs.Rectangle.{IsOnGrid};
 ghost use Rattle.lift_grid.specs.Parts.{region_of};
 ghost use Rattle.lift_model.specs.Links.{AreLinks};
-ghost use Rattle.region_tree.specs.Rooms as whole;
-ghost use Rattle.lift_bounded.specs.Rooms as within;
-ghost use Rattle.lift_cost.specs.Rooms as cost;
-ghost use Rattle.lift_cost.specs.Decided.{CanAskCost};
 ghost use Rattle.plift_words.specs.Given.{verify_data};
-ghost use Rattle.plift_words.specs.declared.query.Query.TheVariants.{Whole, Within, Property, Cost};
-ghost use Rattle.plift_words.specs.Values.{most_steps};
 ghost use Rattle.plift_words.specs.Query.{is_cost};
-ghost use Rattle.plift_top.specs.RightReport.{IsRange};
 ghost use Rattle.cert_check.specs.Source.{file_limit};
-ghost use Rattle.plift_top.specs.Reported.{whole_question};
-ghost use Rattle.plift_top.specs.Bounded.{within_question};
-ghost use Rattle.plift_top.specs.Property.{property_question};
-ghost use Rattle.plift_top.specs.Cost.{asked_cost, cost_question};
-ghost use Rattle.plift_top.specs.Asked.{AskedModel, uncut, cut, safe_in, verified_model};
-ghost use Rattle.plift_top.specs.Verify.{Verifies, KeepsLimit, lacks_chain};
-ghost use Rattle.plift_top.specs.Steps.{IsTestedCase, IsTextFault, IsModelOf, HasCosts, ReadsModel, NamesRoot};
-ghost use Rattle.plift_top.specs.Steps.{without_costs, AdmitsCase, WritesCase, AnswersCase, WritesOver};
+ghost use Rattle.plift_top.specs.Asked.{AskedModel, cut, safe_in, verified_model};
+ghost use Rattle.plift_top.specs.Reads.{KeepsLimit, Reads, ReadsText};
+ghost use Rattle.plift_top.specs.Verify.{verifying, lacks_chain};
+ghost use Rattle.plift_top.specs.Steps.{IsTestedCase, IsTextFault, IsModelOf, HasCosts, NamesRoot};
+ghost use Rattle.plift_top.specs.Steps.{without_costs, AnswersCase, WritesOver};
 
-use crate::bounded::write_bounded_buffered;
-use crate::cost::write_payment_buffered;
+use crate::bounded::{Within, answer_within};
+use crate::cost::answer_cost;
 use crate::costed::CostedModel;
 use crate::lumped::write_lumped;
-use crate::property::write_property_buffered;
-use crate::question::{Question, TestedCase};
+use crate::property::answer_property;
 use crate::refusal::Refusal;
-use crate::report::write_report_buffered;
-use corner_lift::{Case, live_parameters_have_spans, lower_precisions_are_cases};
+use crate::report::{Reach, answer_reach};
+use corner_lift::Case;
 use drn_read::{Costs, costs_are_read_with_the_model, read_costs, read_model};
-use lift_base::{Sink, Source, WriteFault, read_all};
-use lift_bounded::{BoundedRoom, certificates_by_steps_decide};
-use lift_cert::{certificates_decide, rejecting_certificates_reach};
-use lift_cost::{CostQuestion, CostRoom, cost_certificates_decide};
-use lift_dual::until_is_bounded;
-use lift_grid::{Grid, Rect, read_region, trees_tile};
+use lift_base::{Sink, Source, read_all};
+use lift_cost::CostQuestion;
+use lift_grid::{Grid, Rect, read_region};
 use lift_model::{Kind, Links, Model};
 use lift_names::Names;
 use lift_rows::{admit, admit_linked};
-use plift_words::{CostLimits, Query, VerifyJob};
-use property_text::{Op, goals_of, restrict, until_is_reach};
-use region_tree::{Room, rectangles_at_depths, right_trees_tile};
+use plift_words::{Query, VerifyJob};
+use property_text::{goals_of, restrict};
+use property_tree::Question;
 use std::alloc::Global;
 
 /// How many bytes a text may have.
@@ -119,20 +105,6 @@ fn asked_in(alloc: Global, job: &VerifyJob, text: &[u8]) -> Result<CostedModel, 
     })
 }
 
-// Reads the text, and the model that it stands for as the job asks of it.
-fn model_of<S: Source>(
-    alloc: Global,
-    job: &VerifyJob,
-    source: &mut S,
-) -> Result<CostedModel, Refusal>
-    ensures answer { ReadsModel S.left S.faults (verify_data job.now) source.old source.new result }
-    ensures costs { IfOk result (HasCosts job.now.query) }
-    ensures limit { KeepsLimit result (S.left source.old) (S.left source.new) }
-{
-    let text = read_all(alloc, source, TEXT_LIMIT)?;
-    asked_in(alloc, job, &text)
-}
-
 // The rectangle that the job's region names, over its grid.
 fn root_of(alloc: Global, job: &VerifyJob, names: &Names) -> Result<(Grid, Rect), Refusal>
     ensures answer { NamesRoot (verify_data job.now) names.now result }
@@ -143,210 +115,14 @@ fn root_of(alloc: Global, job: &VerifyJob, names: &Names) -> Result<(Grid, Rect)
     Ok(root)
 }
 
-// The case of a model over a root, where all its rows are admitted.
-fn case_of<'m>(
-    model: &'m Model,
-    root: &'m Rect,
-    grid: Grid,
-    job: &VerifyJob,
-) -> Result<Case<'m>, Refusal>
-    requires grid { IsOnGrid grid.d grid.depth (length model.now.names) root.now }
-    requires depth { grid.depth ≡ job.now.depth }
-    ensures { AdmitsCase (verify_data job.now) model.now (region_of (grid, root.now)) result }
-{
-    let case = admit(model, root, grid, job.precision)?;
-    Ok(case)
-}
-
-// The same by the model's links: of rows with the same polynomials one is tested.
-fn linked_case_of<'m>(
-    model: &'m Model,
-    root: &'m Rect,
-    grid: Grid,
-    job: &VerifyJob,
-    links: &Links,
-) -> Result<Case<'m>, Refusal>
-    requires grid { IsOnGrid grid.d grid.depth (length model.now.names) root.now }
-    requires depth { grid.depth ≡ job.now.depth }
-    requires links { AreLinks model.now links.now }
-    ensures { AdmitsCase (verify_data job.now) model.now (region_of (grid, root.now)) result }
-{
-    let case = admit_linked(model, root, grid, job.precision, links)?;
-    Ok(case)
-}
-
-// Writes the report of a case whose rows were tested. From here on no memory is taken.
-fn write_case<K: Sink>(
-    question: &Question,
-    from: Option<u32>,
-    room: &mut Room,
-    out: &mut K,
-) -> Result<(), WriteFault>
-    requires case { IsTestedCase question.now.case.now }
-    requires links { AreLinks question.now.case.now.model question.now.links.now }
-    requires from { IsRange question.now.case.now from }
-    requires made { whole.IsMadeFor question.now.case.now question.now.links.now room.old }
-    ensures { let k = question.now.case.now in
-        WritesCase K.taken K.faults k (whole_question k from question.now.bound) out.old out.new result }
-{
-    certificates_decide();
-    rejecting_certificates_reach();
-    lower_precisions_are_cases();
-    rectangles_at_depths();
-    right_trees_tile();
-    write_report_buffered(question, from, room, out)
-}
-
-/// Makes the room of a case whose rows were tested, and writes its report.
-pub(crate) fn write_whole<K: Sink>(
-    alloc: Global,
-    question: &Question,
-    from: Option<u32>,
-    out: &mut K,
-) -> Result<(), Refusal>
-    requires case { IsTestedCase question.now.case.now }
-    requires links { AreLinks question.now.case.now.model question.now.links.now }
-    requires from { IsRange question.now.case.now from }
-    ensures { AnswersCase K.taken K.faults (Whole question.now.bound from) (uncut question.now.case.now.model)
-        question.now.case.now out.old out.new result }
-{
-    let mut room = Room::make(alloc, question.case, question.links)?;
-    let written = write_case(question, from, &mut room, out);
-    drop(room);
-    Ok(written?)
-}
-
-// Writes the text of such a case for as many steps as the room was made for. Takes no memory.
-fn write_case_within<K: Sink>(
-    question: &Question,
-    room: &mut BoundedRoom,
-    out: &mut K,
-) -> Result<(), WriteFault>
-    requires case { IsTestedCase question.now.case.now }
-    requires links { AreLinks question.now.case.now.model question.now.links.now }
-    requires made { within.IsMadeFor question.now.case.now question.now.links.now room.old }
-    ensures { let k = question.now.case.now in
-        WritesCase K.taken K.faults k (within_question k question.now.bound room.old.steps) out.old out.new result }
-{
-    certificates_by_steps_decide();
-    rectangles_at_depths();
-    live_parameters_have_spans();
-    trees_tile();
-    write_bounded_buffered(question, room, out)
-}
-
-// Makes the room of such a case for a number of steps, and writes its text for them.
-fn write_within<K: Sink>(
-    alloc: Global,
-    question: &Question,
-    steps: u32,
-    out: &mut K,
-) -> Result<(), Refusal>
-    requires case { IsTestedCase question.now.case.now }
-    requires links { AreLinks question.now.case.now.model question.now.links.now }
-    requires steps { (1 ≤ steps) × (steps ≤ most_steps) }
-    ensures { AnswersCase K.taken K.faults (Within question.now.bound steps) (uncut question.now.case.now.model)
-        question.now.case.now out.old out.new result }
-{
-    let mut room = BoundedRoom::make(alloc, question.case, question.links, steps)?;
-    let written = write_case_within(question, &mut room, out);
-    drop(room);
-    Ok(written?)
-}
-
-// Writes the text of such a case for a property. Takes no memory.
-fn write_case_for<K: Sink>(
-    question: &property_tree::Question,
-    room: &mut Room,
-    out: &mut K,
-) -> Result<(), WriteFault>
-    requires case { IsTestedCase question.now.case.now }
-    requires links { AreLinks question.now.case.now.model question.now.links.now }
-    requires made { whole.IsMadeFor question.now.case.now question.now.links.now room.old }
-    requires from { question.now.from ≡ None }
-    ensures { (a : AskedModel) → question.now.case.now.model ≡ cut a
-        → WritesCase K.taken K.faults question.now.case.now
-        (property_question a question.now.case.now question.now.op question.now.bound) out.old out.new result }
-{
-    until_is_bounded();
-    until_is_reach();
-    rectangles_at_depths();
-    live_parameters_have_spans();
-    trees_tile();
-    write_property_buffered(question, room, out)
-}
-
-// Makes the room of such a case, and writes its text for a property that compares in this way.
-fn write_for<K: Sink>(
-    alloc: Global,
-    question: &Question,
-    op: Op,
-    out: &mut K,
-) -> Result<(), Refusal>
-    requires case { IsTestedCase question.now.case.now }
-    requires links { AreLinks question.now.case.now.model question.now.links.now }
-    ensures { (a : AskedModel) → question.now.case.now.model ≡ cut a
-        → AnswersCase K.taken K.faults (Property question.now.bound op) a question.now.case.now out.old out.new result }
-{
-    let mut room = Room::make(alloc, question.case, question.links)?;
-    let asked = property_tree::Question {
-        case: question.case,
-        links: question.links,
-        op,
-        bound: question.bound,
-        from: None,
-    };
-    let written = write_case_for(&asked, &mut room, out);
-    drop(room);
-    Ok(written?)
-}
-
-// Writes the text of such a case for a budget. Takes no memory.
-fn write_case_paid<K: Sink>(
-    question: &CostQuestion,
-    room: &mut CostRoom,
-    out: &mut K,
-) -> Result<(), WriteFault>
-    requires case { IsTestedCase question.now.case.now }
-    requires can { CanAskCost question.now }
-    requires made { cost.IsMadeFor question.now.case.now question.now.links.now room.old }
-    ensures { (a : AskedModel) → question.now.case.now.model ≡ cut a → question.now.costs.now ≡ a.costs
-        → WritesCase K.taken K.faults question.now.case.now (cost_question question.now.case.now
-        (asked_cost (record { cap = question.now.cap; budget = question.now.budget }) a)) out.old out.new result }
-{
-    question.costs.are_costs();
-    cost_certificates_decide();
-    rectangles_at_depths();
-    live_parameters_have_spans();
-    trees_tile();
-    write_payment_buffered(question, room, out)
-}
-
-// Makes the room of such a case, and writes its text for a budget.
-fn write_paid<K: Sink>(
-    alloc: Global,
-    tested: &TestedCase,
-    limits: CostLimits,
-    out: &mut K,
-) -> Result<(), Refusal>
-    requires case { IsTestedCase tested.now.case.now }
-    requires links { AreLinks tested.now.case.now.model tested.now.links.now }
-    requires costs { length tested.now.costs.now ≡ length tested.now.case.now.model.states }
-    requires cap { 1 ≤ limits.cap }
-    ensures { (a : AskedModel) → tested.now.case.now.model ≡ cut a → tested.now.costs.now ≡ a.costs
-        → AnswersCase K.taken K.faults (Cost limits) a tested.now.case.now out.old out.new result }
-{
-    let mut room = CostRoom::make(alloc, tested.case, tested.links)?;
-    let question = CostQuestion {
-        case: tested.case,
-        links: tested.links,
-        costs: tested.costs,
-        cap: limits.cap,
-        budget: limits.budget,
-    };
-    let written = write_case_paid(&question, &mut room, out);
-    drop(room);
-    Ok(written?)
+// A case whose rows were tested, with what it may be asked about.
+#[derive(Clone, Copy)]
+struct TestedCase<'c, 'm> {
+    pub case: &'c Case<'m>,
+    /// The links of the case's model.
+    pub links: &'c Links,
+    /// What a visit of each state costs, where it is asked what is paid.
+    pub costs: &'c Costs,
 }
 
 // Takes all memory that a job needs at a case whose rows were tested, and writes its answer.
@@ -365,12 +141,51 @@ fn write_answer<K: Sink>(
     ensures { (a : AskedModel) → tested.now.case.now.model ≡ cut a → tested.now.costs.now ≡ a.costs
         → AnswersCase K.taken K.faults job.now.query a tested.now.case.now out.old out.new result }
 {
+    let TestedCase { case, links, costs } = *tested;
     match job.query {
-        Query::Whole(bound, from) => write_whole(alloc, &tested.within(bound), from, out),
-        Query::Within(bound, steps) => write_within(alloc, &tested.within(bound), steps, out),
-        Query::Lumped(bound) => write_lumped(alloc, tested.case, bound, out),
-        Query::Property(bound, op) => write_for(alloc, &tested.within(bound), op, out),
-        Query::Cost(limits) => write_paid(alloc, tested, limits, out),
+        Query::Whole(bound, from) => answer_reach(
+            alloc,
+            &Reach {
+                case,
+                links,
+                bound,
+                from,
+            },
+            out,
+        ),
+        Query::Within(bound, steps) => answer_within(
+            alloc,
+            &Within {
+                case,
+                links,
+                bound,
+                steps,
+            },
+            out,
+        ),
+        Query::Lumped(bound) => write_lumped(alloc, case, bound, out),
+        Query::Property(bound, op) => answer_property(
+            alloc,
+            &Question {
+                case,
+                links,
+                op,
+                bound,
+                from: None,
+            },
+            out,
+        ),
+        Query::Cost(limits) => answer_cost(
+            alloc,
+            &CostQuestion {
+                case,
+                links,
+                costs,
+                cap: limits.cap,
+                budget: limits.budget,
+            },
+            out,
+        ),
     }
 }
 
@@ -393,10 +208,10 @@ fn write_over<K: Sink>(
     let model = &costed.model;
     let Ok(links) = Links::build(alloc, model) else {
         // A row that isn't admitted is told all the same.
-        case_of(model, root, grid, job)?;
+        admit(model, root, grid, job.precision)?;
         return Err(Refusal::Memory);
     };
-    let case = linked_case_of(model, root, grid, job, &links)?;
+    let case = admit_linked(model, root, grid, job.precision, &links)?;
     let tested = TestedCase {
         case: &case,
         links: &links,
@@ -420,6 +235,28 @@ fn lacks_chain(query: Query, kind: Kind) -> bool
     }
 }
 
+// Verifies the model that a text stands for as the job asks of it. The text is let go before its rows are tested.
+fn verify_text<K: Sink>(
+    alloc: Global,
+    job: &VerifyJob,
+    text: Vec<u8>,
+    out: &mut K,
+) -> Result<(), Refusal>
+    requires { length text.items ≤ file_limit }
+    ensures { ReadsText K.taken K.faults (verifying (verify_data job.now)) text.items out.old out.new result }
+{
+    let asked = asked_in(alloc, job, &text);
+    drop(text);
+    let costed = asked?;
+    if lacks_chain(job.query, costed.model.kind()) {
+        return Err(Refusal::NotChain);
+    }
+    let region = root_of(alloc, job, costed.model.names())?;
+    let written = write_over(alloc, job, &costed, &region, out);
+    drop(costed);
+    written
+}
+
 /// Reads a model from the source, with its costs where the job has a reward, cuts it where the job has a label of safe
 /// states, tests its rows over the job's region, and writes its report, its text for the job's number of steps, for its
 /// property or for its budget, or the report of its quotient.
@@ -429,16 +266,10 @@ pub fn verify<S: Source, K: Sink>(
     source: &mut S,
     out: &mut K,
 ) -> Result<(), Refusal>
-    ensures answer { Verifies S.left S.faults K.taken K.faults (verify_data job.now)
+    ensures answer { Reads S.left S.faults K.taken K.faults (verifying (verify_data job.now))
         source.old source.new out.old out.new result }
     ensures limit { KeepsLimit result (S.left source.old) (S.left source.new) }
 {
-    let costed = model_of(alloc, job, source)?;
-    if lacks_chain(job.query, costed.model.kind()) {
-        return Err(Refusal::NotChain);
-    }
-    let region = root_of(alloc, job, costed.model.names())?;
-    let written = write_over(alloc, job, &costed, &region, out);
-    drop(costed);
-    written
+    let text = read_all(alloc, source, TEXT_LIMIT)?;
+    verify_text(alloc, job, text, out)
 }

@@ -1,15 +1,16 @@
 use Rattle.std.proofs.Common.{◌≤◌, length, arith}
 use Rattle.cert_check.specs.Source.{file_limit}
-use Rattle.plift_top.proofs.RefineSteps.{refines, refines_within}
+use Rattle.plift_top.specs.Refine.{refining}
+use Rattle.plift_top.proofs.Reading.{reads, reads_within}
 use Rattle.plift_top.proofs.refine.refine.Goals as goal
 
 pub returns-clause-answer : goal.returns-clause-answer
 returns-clause-answer g c =
     let bytes = c.in_ok-text.ensures.bytes in
-    refines g.S.Source.left g.S.Source.faults g.K.Sink.taken g.K.Sink.faults c.args.job.depth _ _ _ _ c.in_ok-text.text.items bytes.0 bytes.1 _ (rw c.deref.ensures.value at c.refine_text.ensures)
+    reads g.S.Source.left g.S.Source.faults g.K.Sink.taken g.K.Sink.faults (refining c.args.job.depth) (λ P old new h. h) _ _ _ _ c.in_ok-text.text.items bytes.0 bytes.1 _ (rw c.deref.ensures.value at c.refine_text.ensures)
 
 pub returns-clause-limit : goal.returns-clause-limit
 returns-clause-limit g c =
     let bytes = c.in_ok-text.ensures.bytes in
     let few : length c.in_ok-text.text.items ≤ file_limit = omega arith in
-    refines_within g.S.Source.left g.S.Source.faults g.K.Sink.taken g.K.Sink.faults c.args.job.depth _ _ _ _ c.in_ok-text.text.items bytes.0 bytes.1 _ (rw c.deref.ensures.value at c.refine_text.ensures) few
+    reads_within g.S.Source.left g.S.Source.faults g.K.Sink.taken g.K.Sink.faults (refining c.args.job.depth) (λ P old new h. h) _ _ _ _ c.in_ok-text.text.items bytes.0 bytes.1 _ (rw c.deref.ensures.value at c.refine_text.ensures) few

@@ -1,4 +1,3 @@
-use Rattle.std.proofs.Common.{sym}
 use Rattle.plift_words.specs.Given.{verify_data}
 use Rattle.plift_top.specs.Asked.{verified_model}
 use Rattle.plift_top.proofs.Asked.{faulty, model_costed, no_costed}

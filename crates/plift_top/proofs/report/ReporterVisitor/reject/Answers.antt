@@ -1,4 +1,4 @@
-use Rattle.std.proofs.Common.{List, ℕ}
+use Rattle.std.proofs.Common.{List}
 use Rattle.std.specs.List.{concat}
 use Rattle.lift_grid.specs.Tree.{RejectData}
 use Rattle.cert_text.specs.Report.{at_lines, reject_lines}
