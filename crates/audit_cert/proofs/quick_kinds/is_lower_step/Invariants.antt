@@ -1,0 +1,4 @@
+use Rattle.audit_cert.proofs.quick_kinds.is_lower_step.Given as goal
+
+abbrev pub ghost-passes : goal.ghost-passes
+ghost-passes g a = g.spans

@@ -1,0 +1,5 @@
+pub mod Claim
+pub mod Miss
+pub mod Form
+pub mod Laws
+pub mod Held
