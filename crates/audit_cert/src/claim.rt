@@ -28,9 +28,12 @@ pub(crate) enum Kind<'a> {
 
 /// Ranks, and the rate at which weight has to lead to lower ones.
 #[derive(Clone, Copy)]
-pub(crate) struct Ranking<'a> {
+pub struct Ranking<'a> {
+    /// The rank of each state, `u32::MAX` standing for none.
     pub ranks: &'a [u32],
+    /// The weight into lower ranks, times 2 to this, is at least the whole; at most 126.
     pub e: u32,
+    /// The greatest rank, from 1 to 65,536.
     pub k: u32,
 }
 

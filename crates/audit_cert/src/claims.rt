@@ -1,9 +1,9 @@
 //! What the vectors of each kind of certificate claim.
 
-ghost use Rattle.std.specs.Prelude.{◌≡◌, [], Option};
+ghost use Rattle.std.specs.Prelude.{◌≡◌, Option};
 ghost use Rattle.std.specs.Option.{option_map};
 ghost use Rattle.audit_cert.specs.Claim.{cost, high, last, low, lower_all, lower_step, upper_one, upper_step};
-ghost use Rattle.audit_cert.specs.Held.{claim_of, limit_of};
+ghost use Rattle.audit_cert.specs.Held.{claim_of, limit_of, ranking_of};
 
 use crate::claim::{Claim, Kind, Ranking};
 use crate::limit::Limit;
@@ -47,23 +47,15 @@ pub(crate) fn upper_one<'a>(op: Op, bound: Bound, x: &'a [i64], picks: &'a [u32]
 }
 
 /// The claim of a lower vector for every scheduler.
-pub(crate) fn lower_all<'a>(
-    op: Op,
-    bound: Bound,
-    y: &'a [i64],
-    ranks: &'a [u32],
-    e: u32,
-    k: u32,
-) -> Claim<'a>
-    ensures { claim_of result ≡ lower_all op bound
-        (record { numbers = y.now; picks = []; ranks = ranks.now; e = e; k = k }) }
+pub(crate) fn lower_all<'a>(op: Op, bound: Bound, y: &'a [i64], ranking: Ranking<'a>) -> Claim<'a>
+    ensures { claim_of result ≡ lower_all op bound (ranking_of y.now ranking.entry) }
 {
     Claim {
         kind: Kind::Lower,
         numbers: y,
         targets: y,
         picks: None,
-        ranking: Some(Ranking { ranks, e, k }),
+        ranking: Some(ranking),
         limit: Some(Limit::high(op, bound)),
     }
 }

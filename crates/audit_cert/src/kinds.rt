@@ -1,6 +1,6 @@
 //! The tests of each kind of certificate, with the first that fails.
 
-ghost use Rattle.std.specs.Prelude.{◌↔◌, [], IfErr, IfSome, IsOk};
+ghost use Rattle.std.specs.Prelude.{◌↔◌, IfErr, IfSome, IsOk};
 ghost use Rattle.lift_grid.specs.Rectangle.{spans_of};
 ghost use Rattle.corner_lift.specs.Case.{AreSidesInside, number};
 ghost use Rattle.corner_lift.specs.Certificate.{AreNumbers};
@@ -12,8 +12,10 @@ ghost use Rattle.lift_bounded.specs.Steps.{IsLowerStep, IsUpperStep};
 ghost use Rattle.lift_cost.specs.Certificate.{IsCostCertificate};
 ghost use Rattle.audit_cert.specs.Claim.{cost, lower_all, lower_step, upper_one, upper_step};
 ghost use Rattle.audit_cert.specs.Form.{HasPicks, HasRanks};
+ghost use Rattle.audit_cert.specs.Held.{ranking_of};
 ghost use Rattle.audit_cert.specs.Miss.{IsFirstMiss};
 
+use crate::claim::Ranking;
 use crate::claims::{cost, lower_all, lower_step, upper_one, upper_step};
 use crate::whole::meets;
 use corner_lift::{Case, rows_at_corners};
@@ -67,23 +69,21 @@ pub fn meets_lower_all(
     op: Op,
     bound: Bound,
     y: &[i64],
-    ranks: &[u32],
-    e: u32,
-    k: u32,
+    ranking: Ranking,
 ) -> Result<(), Miss>
     requires sides { AreSidesInside case.now.root sides.now }
     requires numbers { AreNumbers case.now y.now }
-    requires ranks { HasRanks case.now (record { numbers = y.now; picks = []; ranks = ranks.now; e = e; k = k }) }
+    requires ranks { HasRanks case.now (ranking_of y.now ranking) }
     ensures ok { IsOk result ↔ (IsLowerAll case.now (spans_of sides.now)
-        (record { numbers = y.now; picks = []; ranks = ranks.now; e = e; k = k })
+        (ranking_of y.now ranking.entry)
         × IsHighSide op bound case.now.w (number y.now case.now.model.init)) }
     ensures miss { IfErr result (IsFirstMiss case.now (spans_of sides.now)
-        (lower_all op bound (record { numbers = y.now; picks = []; ranks = ranks.now; e = e; k = k }))) }
+        (lower_all op bound (ranking_of y.now ranking.entry))) }
     ensures numbers { IfErr result HasSmallNumbers }
 {
     rows_at_corners();
     let _ = case.w();
-    let claim = lower_all(op, bound, y, ranks, e, k);
+    let claim = lower_all(op, bound, y, ranking);
     meets(case, sides, &claim)
 }
 

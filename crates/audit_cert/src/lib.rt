@@ -14,6 +14,7 @@ mod quick_kinds;
 mod state;
 mod whole;
 
+pub use claim::Ranking;
 pub use kinds::{meets_cost, meets_lower_all, meets_lower_step, meets_upper_one, meets_upper_step};
 pub use laws::first_miss_is_one;
 pub use quick_kinds::{is_cost, is_lower_all, is_lower_step, is_upper_one, is_upper_step};

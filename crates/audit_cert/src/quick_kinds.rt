@@ -2,7 +2,7 @@
 //! lies inside the root. The links are those of the case's model. They go over each row that is tested once, and take no
 //! memory.
 
-ghost use Rattle.std.specs.Prelude.{◌↔◌, [], IfSome, IsTrue};
+ghost use Rattle.std.specs.Prelude.{◌↔◌, IfSome, IsTrue};
 ghost use Rattle.lift_grid.specs.Rectangle.{Spans};
 ghost use Rattle.lift_model.specs.Links.{ArePlaces};
 ghost use Rattle.corner_lift.specs.Case.{number};
@@ -14,7 +14,9 @@ ghost use Rattle.lift_dual.specs.Sides.{IsLowerAll, IsUpperOne};
 ghost use Rattle.lift_bounded.specs.Steps.{IsLowerStep, IsUpperStep};
 ghost use Rattle.lift_cost.specs.Certificate.{IsCostCertificate};
 ghost use Rattle.audit_cert.specs.Form.{HasPicks, HasRanks};
+ghost use Rattle.audit_cert.specs.Held.{ranking_of};
 
+use crate::claim::Ranking;
 use crate::claims::{cost, lower_all, lower_step, upper_one, upper_step};
 use crate::quick::passes;
 use corner_lift::{Case, rows_at_corners};
@@ -58,21 +60,19 @@ pub fn is_lower_all(
     op: Op,
     bound: Bound,
     y: &[i64],
-    ranks: &[u32],
-    e: u32,
-    k: u32,
+    ranking: Ranking,
 ) -> bool
     ghost spans: { Spans }
     requires places { ArePlaces case.now.model links.now }
     requires table { IsTable case.now links.now spans weights.now }
     requires numbers { AreNumbers case.now y.now }
-    requires ranks { HasRanks case.now (record { numbers = y.now; picks = []; ranks = ranks.now; e = e; k = k }) }
-    ensures { IsTrue result ↔ (IsLowerAll case.now spans (record { numbers = y.now; picks = []; ranks = ranks.now; e = e; k = k })
+    requires ranks { HasRanks case.now (ranking_of y.now ranking) }
+    ensures { IsTrue result ↔ (IsLowerAll case.now spans (ranking_of y.now ranking.entry)
         × IsHighSide op bound case.now.w (number y.now case.now.model.init)) }
 {
     rows_at_corners();
     let _ = case.w();
-    let claim = lower_all(op, bound, y, ranks, e, k);
+    let claim = lower_all(op, bound, y, ranking);
     passes(case, links, weights, &claim)
 }
 
