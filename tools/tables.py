@@ -6,8 +6,9 @@
 
 tools/costs.tsv has what each crate's own proof takes, and how many functions it has; the table of docs/ARCHITECTURE.md
 is made from it and from the wrong bodies that stand beside the crates. docs/PROMISES.md is made from the crates' source
-and tools/promises.tsv. tools/words has the commands, options, statuses, limits, notes and causes: tables of GUIDE,
-FORMATS and MESSAGES, the man pages of plift and plift-view, the help and the completion are made from these.
+and tools/promises.tsv, docs/WALKS.md from comments there and tools/walks.tsv. tools/words has the commands, options,
+statuses, limits, notes and causes: tables of GUIDE, FORMATS and MESSAGES, the man pages of plift and plift-view, the
+help and the completion are made from these.
 """
 
 from __future__ import annotations
@@ -19,6 +20,7 @@ from typing import Callable, Dict, List, NamedTuple
 
 import manual
 import promises
+import walks
 
 TOP = Path(__file__).resolve().parent.parent
 HEAD = "| Crate | Functions | Wrong bodies in the gate | Beside it | Own proof |\n|---|---|---|---|---|\n"
@@ -64,6 +66,7 @@ def architecture(text: str) -> str:
 FILES: Dict[str, Callable[[str], str]] = {
     "docs/ARCHITECTURE.md": architecture,
     promises.PAGE: lambda _: promises.made(),
+    walks.PAGE: lambda _: walks.made(),
     **manual.makers(),
 }
 

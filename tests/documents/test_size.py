@@ -12,6 +12,7 @@ MOST = 250_000  # bytes of all that is written by hand
 GENERATED = {
     "docs/MESSAGES.md": "tools/tables.py",
     "docs/PROMISES.md": "tools/tables.py",
+    "docs/WALKS.md": "tools/walks.py",
 }
 MADE = re.compile(r"^<!-- made by (\S+): [^>]* -->\n.*?^<!-- end -->\n", re.M | re.S)
 
