@@ -45,6 +45,9 @@ const FEW_PASSES: u32 = 32;
 /// How many more passes there are for each state behind one that didn't fall whose share was made less.
 const SPREAD_PASSES: u32 = 8;
 
+/// By how many levels the share of a state is made less that was moved to where hardly anything is left of it.
+const SPENT_LEVELS: u32 = 3;
+
 /// How many more lower it from that one.
 const GUESS_PATIENCE: u32 = 16384;
 
@@ -140,7 +143,18 @@ fn are_other(rows: &Lifted, lane: &[i64], noted: &[u32], part: Part) -> bool
     true
 }
 
-/// Makes the share of each state of a part less that has not, and of so many behind it.
+/// Whether the state at a position has no number above 1: a moved guess took more than there is.
+fn is_spent_at(rows: &Lifted, lane: &[i64], position: u32) -> bool
+    requires numbers { AreNumbers rows.now.case lane.now }
+    requires part { position < length rows.now.links.order }
+{
+    match rows.open_state(position) {
+        Some(s) => lane[s as usize] <= 1,
+        None => false,
+    }
+}
+
+/// Makes the share of each state of a part less that has not, or that is spent, and of so many behind it.
 fn lessen_shares(rows: &Lifted, lane: &[i64], noted: &mut [u32], part: Part, spread: u32)
     requires numbers { AreNumbers rows.now.case lane.now }
     requires notes { length noted.old ≡ length rows.now.case.model.states }
@@ -149,12 +163,15 @@ fn lessen_shares(rows: &Lifted, lane: &[i64], noted: &mut [u32], part: Part, spr
 {
     let mut left: u32 = 0;
     for position in part.low..part.high {
-        if !is_other_at(rows, lane, noted, position) {
+        let is_spent = is_spent_at(rows, lane, position);
+        if is_spent || !is_other_at(rows, lane, noted, position) {
             left = spread.saturating_add(1);
         }
         if left > 0 {
             left -= 1;
-            lessen_share(noted, position);
+            for _ in 0..if is_spent { SPENT_LEVELS } else { 1 } {
+                lessen_share(noted, position);
+            }
         }
     }
 }

@@ -7,7 +7,7 @@ ghost use Rattle.rounded_iter.specs.Watching.{CanClimb, IsFound, CanGuess, IsGue
 use crate::guess::{RAISES, Raised};
 use crate::table::Table;
 use corner_lift::{corners_bound_weights, rows_at_corners};
-use float_guess::{Method, lessen_share, make_shares_whole, note_roundings};
+use float_guess::{HELD_STATES, Method, lessen_share, make_shares_whole, note_roundings};
 
 /// How many moved guesses are tried, until one is no fault after so many passes.
 const TRIES: u32 = 8;
@@ -107,8 +107,9 @@ impl Table<'_, '_> {
 
     /// Raises guesses that are moved by what rounding makes of the numbers, where there are rewards, and tells whether the
     /// initial state's number is within the limit: each is moved by less for the states at which the last one may have
-    /// been a fault. Where the last one was none, but takes long, it is raised for a while, and what rounding makes of it
-    /// is noted anew. None: no least bound came of them for certain.
+    /// been a fault. Where the last one was none, but takes long, it is raised for a while; then states are held, where no
+    /// component is too large for that, and else what rounding makes of it is noted anew. None: no least bound came of them
+    /// for certain.
     fn find_from_rounded(
         &self,
         lane: &mut [i64],
@@ -132,6 +133,9 @@ impl Table<'_, '_> {
                 Raised::Certain => {
                     if let Some(found) = self.rise(lane, flags, Some(MORE_RAISES)) {
                         return Some(found);
+                    }
+                    if self.has_no_larger(HELD_STATES as u32) {
+                        return self.rise_held(lane, flags, false);
                     }
                     self.note_all_roundings(lane, noted);
                     spread = 0;

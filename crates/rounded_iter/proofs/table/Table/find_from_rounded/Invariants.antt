@@ -10,3 +10,6 @@ ghost-rise g a = g.spans
 -- the vector may be guessed anew
 abbrev pub invariant-loop-tried : goal.invariant-loop-tried
 invariant-loop-tried g l = IsGuess l.self.rule l.self.case l.lane
+
+abbrev pub ghost-rise_held : goal.ghost-rise_held
+ghost-rise_held g a = g.spans
