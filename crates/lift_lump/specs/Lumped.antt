@@ -18,6 +18,7 @@ pub record IsLumped (m : ModelData) (l : LumpedData) : Type 0 where
   pub numbered : AreNumbered (length m.states) l.blocks
   pub model : l.model ≡ quotient m l.blocks
 
--- the quotient by the coarsest right partition has a coefficient that is too large
-abbrev pub IsWide : ModelData → Type 0
-IsWide m = (p : Blocks) → IsCoarsest m (block p) → AreNumbered (length m.states) p → HasSmallCoefficients (quotient m p) → ⊥
+-- there is a coarsest right partition, numbered by least states, and the quotient by it has a coefficient that is too large
+pub record IsWide (m : ModelData) : Type 0 where
+  pub some : (p : Blocks) × (IsCoarsest m (block p) × AreNumbered (length m.states) p)
+  pub wide : (p : Blocks) → IsCoarsest m (block p) → AreNumbered (length m.states) p → HasSmallCoefficients (quotient m p) → ⊥

@@ -61,7 +61,7 @@ between a b c d p q h = subst (λ z. z ≤ℤ b) (sym p) (subst (λ z. c ≤ℤ 
 pub not_wide : {m : ModelData} {l : LumpedData} → IsLumped m l → IsModel l.model → IsWide m → ⊥
 not_wide {m} {l} is valid wide =
     let small : HasSmallCoefficients l.model = λ s c h a r g e d i. ((valid.rows s c h a r g).entries e d i).sizes in
-    wide l.blocks is.coarsest is.numbered (subst HasSmallCoefficients is.model small)
+    wide.wide l.blocks is.coarsest is.numbered (subst HasSmallCoefficients is.model small)
 
 -- and is a case
 pub quotient_is_case : QuotientsAreCases → (k : CaseData) (l : LumpedData) → IsCase k → k.model.kind ≡ Dtmc → IsLumped k.model l → HasSmallCoefficients l.model → IsCase (lumped_case k l)
