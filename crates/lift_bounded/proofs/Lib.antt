@@ -6,5 +6,10 @@ pub mod Making
 pub mod Stepping
 pub mod Filling
 pub mod Single
+pub mod Searches
+pub mod Axes
+pub mod Halving
+pub mod Existing
+pub mod Trees
 pub mod Texts
 pub mod Shapes

@@ -151,7 +151,7 @@ power_positive : (b : ℤ) (n : ℕ) → pos 1 ≤ℤ b → pos 1 ≤ℤ power b
 power_positive b zero h = omega (arith, linear)
 power_positive b (suc n) h = product_positive b (power b n) h (power_positive b n h)
 
-whole_positive : (k : CaseData) (s a : ℕ) → IsCase k → pos 1 ≤ℤ row_whole k s a
+pub whole_positive : (k : CaseData) (s a : ℕ) → IsCase k → pos 1 ≤ℤ row_whole k s a
 whole_positive k s a is = product_positive k.model.common (power k.d (row_parameters k (row_at k.model s a))) is.asked.model.denominator.0 (power_positive k.d (row_parameters k (row_at k.model s a)) (omega (arith, linear, is.asked.grid.positive)))
 
 covers_more : (k : CaseData) (spans : Spans) (x : List ℤ) (s a : ℕ) (u v : ℤ) → IsCase k → u ≤ℤ v → Covers k spans x s a u → Covers k spans x s a v

@@ -38,7 +38,19 @@ LeastUppersRefute = (k : CaseData) (spans : Spans) (bound : Bound) (h : ℕ) (xs
 abbrev pub GreatestLowersRefute : Type 0
 GreatestLowersRefute = (k : CaseData) (spans : Spans) (bound : Bound) (h : ℕ) (r : LowersData) → AreGreatestLowers k spans h r → IsWithin bound k.w (number (nth r.numbers h) k.model.init) → NoneReject k spans bound h
 
--- ---- there is one
+-- ---- there is one, and no other
+
+-- a rectangle inside the root has a list of least upper vectors for each number of steps
+abbrev pub LeastUppersExist : Type 0
+LeastUppersExist = (k : CaseData) (spans : Spans) (h : ℕ) → IsCase k → IsInside k.root spans → (xs : List (List ℤ)) × AreLeastUppers k spans h xs
+
+-- and one of greatest lower vectors, with a list of picks for each
+abbrev pub GreatestLowersExist : Type 0
+GreatestLowersExist = (k : CaseData) (spans : Spans) (h : ℕ) → IsCase k → IsInside k.root spans → (r : LowersData) × AreGreatestLowers k spans h r
+
+-- a case has a right tree for each bound and each number of steps
+abbrev pub BoundedTreesExist : Type 0
+BoundedTreesExist = (k : CaseData) (bound : Bound) (h : ℕ) → IsCase k → (tree : Halved BoundedLeaf) × IsRightWithin k bound h k.root 0 tree
 
 -- a rectangle has at most one list of least upper vectors for a number of steps
 abbrev pub LeastUppersAreOne : Type 0

@@ -12,8 +12,8 @@ mod vectors;
 mod writers;
 
 pub use laws::{
-    bounded_trees_are_one, certificates_by_steps_are_one, certificates_by_steps_decide,
-    steps_make_certificates,
+    bounded_trees_are_one, bounded_trees_exist, certificates_by_steps_are_one,
+    certificates_by_steps_decide, certificates_by_steps_exist, steps_make_certificates,
 };
 pub use room::BoundedRoom;
 pub use tree::write_tree;
