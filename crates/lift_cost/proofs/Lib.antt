@@ -2,5 +2,10 @@ pub mod Cases
 pub mod Covering
 pub mod Paying
 pub mod Trees
+pub mod Searches
+pub mod Least
+pub mod Axes
+pub mod Halving
+pub mod Existing
 pub mod Ready
 pub mod Limits

@@ -1,11 +1,11 @@
 -- What holds of cost certificates, for who reasons about them.
-use Rattle.std.specs.Prelude.{◌≡◌, ℕ, ◌≤◌, ◌<◌, ◌*◌, ◌^◌, List, ℤ, pos, ◌*ℤ◌, ◌<ℤ◌}
+use Rattle.std.specs.Prelude.{◌≡◌, ℕ, ◌≤◌, ◌*◌, ◌^◌, List, ℤ, pos, ◌*ℤ◌, ◌<ℤ◌, ◌⊎◌}
 use Rattle.lift_poly.specs.Polynomial.{Valuation}
 use Rattle.lift_grid.specs.Rectangle.{Spans, Inside}
 use Rattle.corner_lift.specs.Case.{CaseData, IsCase, IsInside, number}
 use Rattle.lift_walk.specs.Halved.{Halved}
 use Rattle.lift_costs.specs.Costs.{CostData}
-use Rattle.rounded_iter.specs.Priced.{IsLeastPriced}
+use Rattle.rounded_iter.specs.Priced.{IsPriced, IsLeastPriced}
 use Rattle.lift_cost.specs.Expected.{AreCosts}
 use Rattle.lift_cost.specs.Certificate.{BudgetData, IsCostCertificate, price_over}
 use Rattle.lift_cost.specs.Paid.{IsPaidAt}
@@ -20,6 +20,16 @@ CertificatesBoundCosts = (k : CaseData) (spans : Spans) (costs : List CostData) 
 abbrev pub LeastPricedRefutes : Type 0
 LeastPricedRefutes = (k : CaseData) (spans : Spans) (costs : List CostData) (cap : ℕ) (budget : BudgetData) (z : List ℤ) → IsLeastPriced k spans (price_over k.w costs cap) z
     → (pos budget.num *ℤ pos (2 ^ k.w)) <ℤ (number z k.model.init *ℤ pos (cap * budget.den)) → (y : List ℤ) → IsCostCertificate k spans costs cap budget y → ⊥
+
+-- ---- there is one, and no other
+
+-- a rectangle inside the root has a least priced vector, whatever the prices are, or no priced vector at all
+abbrev pub LeastPricedOrNone : Type 0
+LeastPricedOrNone = (k : CaseData) (spans : Spans) (prices : ℕ → ℤ) → IsCase k → IsInside k.root spans → ((z : List ℤ) × IsLeastPriced k spans prices z) ⊎ ((y : List ℤ) → IsPriced k spans prices y → ⊥)
+
+-- a case has a right tree for costs, a cap and a budget
+abbrev pub CostTreesExist : Type 0
+CostTreesExist = (k : CaseData) (a : AskedCost) → IsCase k → (tree : Halved (List ℤ)) × IsRightCost k a k.root 0 tree
 
 -- a rectangle is decided by at most one vector
 abbrev pub LeastCostsAreOne : Type 0

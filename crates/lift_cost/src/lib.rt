@@ -14,7 +14,10 @@ mod tree;
 
 pub use building::{CostBranch, CostTree, build};
 pub use cost::least_cost;
-pub use laws::{cost_certificates_decide, cost_trees_are_one, least_costs_are_one};
+pub use laws::{
+    cost_certificates_decide, cost_trees_are_one, cost_trees_exist, least_costs_are_one,
+    least_costs_exist,
+};
 pub use question::{Budget, CostQuestion};
 pub use room::CostRoom;
 pub use tree::write_tree;
