@@ -112,14 +112,18 @@ class Source(unittest.TestCase):
     def test_options_of_each_command(self) -> None:
         """The options that have to stand behind a command that asks, and those that may, are those of the tables."""
         line = specs("plift_words", "Line")
-        common = CODES.findall(next(told for told in line.splitlines() if told.startswith("common_options =")))
+        common, of_range = (
+            CODES.findall(next(told for told in line.splitlines() if told.startswith(f"{name} =")))
+            for name in ("common_options", "range_options")
+        )
         asking = FORM.findall(line)
         self.assertEqual([name for name, _, _ in asking], ["verify", "bounded", "lumped", "property", "cost"])
         for name, must, may in asking:
             with self.subTest(name):
                 needed = {row["option"]: row["needed"] == "yes" for row in data.options_of(name)}
                 told = {option: True for option in CODES.findall(must)}
-                told.update((option, False) for option in [*CODES.findall(may), *common])
+                left = of_range if "range_options" in may else []
+                told.update((option, False) for option in [*CODES.findall(may), *left, *common])
                 self.assertEqual(told, needed)
         every = next(told for told in specs("plift_words", "Parser").splitlines() if told.startswith("option_names ="))
         rows = [row["option"] for row in data.table("options") if row["commands"] != "plift-view"]

@@ -50,12 +50,12 @@ lumped_within : job (codes "lumped" ∷ codes "--goal=heads" ∷ codes "--bound=
 lumped_within = refl
 
 -- by a formula, with a label of safe states and without one
-asks_until : job (codes "property" ∷ codes "--depth=5" ∷ codes "--formula" ∷ codes "P>=2/4 [ \"up\" U \"heads\" ]" ∷ codes "--precision=4" ∷ []) ≡ Ok (verify (record at_most_half { safe = Some (codes "up"); query = query.Property half AtLeast }))
+asks_until : job (codes "property" ∷ codes "--depth=5" ∷ codes "--formula" ∷ codes "P>=2/4 [ \"up\" U \"heads\" ]" ∷ codes "--precision=4" ∷ []) ≡ Ok (verify (record at_most_half { safe = Some (codes "up"); query = query.Property half AtLeast None }))
 unfolding at_most_half half gcd
 asks_until = refl
 
 asks_eventually : job (codes "property" ∷ codes "--formula=P<0.5[F\"heads\"]" ∷ codes "--region" ∷ codes "p<=2/5" ∷ codes "--depth=5" ∷ codes "--precision=4" ∷ [])
-    ≡ Ok (verify (record at_most_half { region = codes "p<=2/5"; query = query.Property half Below }))
+    ≡ Ok (verify (record at_most_half { region = codes "p<=2/5"; query = query.Property half Below None }))
 unfolding at_most_half half gcd
 asks_eventually = refl
 
@@ -135,9 +135,6 @@ property_of_goal = refl
 verify_formula : job (codes "verify" ∷ codes "--goal=heads" ∷ codes "--bound=1/2" ∷ codes "--formula" ∷ codes "P<=1/2 [ F \"heads\" ]" ∷ []) ≡ Err field.Words
 verify_formula = refl
 
-property_from : job (codes "property" ∷ codes "--from=1" ∷ codes "--formula" ∷ codes "P<=1/2 [ F \"heads\" ]" ∷ []) ≡ Err field.Words
-property_from = refl
-
 -- with the least precision of a range, from 1 to the precision
 asks_from : job (codes "verify" ∷ codes "--from" ∷ codes "001" ∷ codes "--goal=heads" ∷ codes "--bound=1/2" ∷ codes "--depth=5" ∷ codes "--precision=4" ∷ []) ≡ Ok (verify (record at_most_half { query = query.Whole half (Some 1) }))
 unfolding at_most_half half gcd
@@ -159,12 +156,21 @@ from_four_digits : job (codes "verify" ∷ codes "--from=0001" ∷ codes "--goal
 unfolding gcd
 from_four_digits = refl
 
+-- of a property too
+property_from : job (codes "property" ∷ codes "--from=1" ∷ codes "--depth=5" ∷ codes "--precision=4" ∷ codes "--formula" ∷ codes "P>=1/2 [ F \"heads\" ]" ∷ []) ≡ Ok (verify (record at_most_half { query = query.Property half AtLeast (Some 1) }))
+unfolding at_most_half half gcd
+property_from = refl
+
+property_from_above : job (codes "property" ∷ codes "--from=25" ∷ codes "--formula" ∷ codes "P<=1/2 [ F \"heads\" ]" ∷ []) ≡ Err field.From
+unfolding gcd
+property_from_above = refl
+
 -- the precision is told before
 precision_before_from : job (codes "verify" ∷ codes "--from=0" ∷ codes "--goal=heads" ∷ codes "--bound=1/2" ∷ codes "--precision=41" ∷ []) ≡ Err field.Precision
 unfolding gcd
 precision_before_from = refl
 
--- which `bounded` and `lumped` aren't asked
+-- which `bounded`, `lumped` and `cost` aren't asked
 bounded_from : job (codes "bounded" ∷ codes "--goal=heads" ∷ codes "--bound=1/2" ∷ codes "--steps=4" ∷ codes "--from=1" ∷ []) ≡ Err field.Words
 bounded_from = refl
 
@@ -281,3 +287,6 @@ dash_blocks = refl
 
 two_numbers : job (codes "generate" ∷ codes "5" ∷ codes "5" ∷ []) ≡ Err field.Words
 two_numbers = refl
+
+cost_from : job (codes "cost" ∷ codes "--goal=heads" ∷ codes "--reward=steps" ∷ codes "--budget=1" ∷ codes "--cap=2" ∷ codes "--from=1" ∷ []) ≡ Err field.Words
+cost_from = refl

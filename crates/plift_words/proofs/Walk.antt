@@ -21,7 +21,7 @@ use Rattle.clap.proofs.TakesLemmas.{leaf_takes}
 use Rattle.clap.proofs.WalkLemmas.{both, first_value-rows}
 use Rattle.clap.proofs.SimpleLemmas.{is_false, is_nil}
 use Rattle.lift_frac.specs.Written.{cut_at}
-use Rattle.plift_words.specs.Line.{Setting, attached, options, stands, value_of, is_among, is_value, are_options, is_command, is_verify, is_bounded, is_lumped, common_options, is_property, is_cost, is_asking}
+use Rattle.plift_words.specs.Line.{Setting, attached, options, stands, value_of, is_among, is_value, are_options, is_command, is_verify, is_bounded, is_lumped, common_options, range_options, is_property, is_cost, is_asking}
 use Rattle.plift_words.proofs.Cuts.{neither, cut_parts, options_one, options_two, options_lone}
 use Rattle.plift_words.specs.Parser.{HasValues, option_names, verify_app}
 
@@ -420,12 +420,12 @@ plain_line command words e = let line = command ∷ words in elim (either (is_ve
   | inl o ↦ elim (either (is_verify line || is_bounded line || is_lumped line) (is_property line) o) [
     | inl o ↦ elim (either (is_verify line || is_bounded line) (is_lumped line) o) [
       | inl o ↦ elim (either (is_verify line) (is_bounded line) o) [
-        | inl v ↦ of_command (codes "verify") command (codes "--goal" ∷ codes "--bound" ∷ []) (codes "--from" ∷ common_options) words refl refl v
+        | inl v ↦ of_command (codes "verify") command (codes "--goal" ∷ codes "--bound" ∷ []) range_options words refl refl v
         | inr b ↦ of_command (codes "bounded") command (codes "--goal" ∷ codes "--bound" ∷ codes "--steps" ∷ []) common_options words refl refl b
       ]
       | inr l ↦ of_command (codes "lumped") command (codes "--goal" ∷ codes "--bound" ∷ []) common_options words refl refl l
     ]
-    | inr p ↦ of_command (codes "property") command (codes "--formula" ∷ []) common_options words refl refl p
+    | inr p ↦ of_command (codes "property") command (codes "--formula" ∷ []) range_options words refl refl p
   ]
   | inr c ↦ of_command (codes "cost") command (codes "--goal" ∷ codes "--reward" ∷ codes "--budget" ∷ codes "--cap" ∷ []) common_options words refl refl c
 ]

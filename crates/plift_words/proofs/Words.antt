@@ -11,7 +11,7 @@ use Rattle.corner_lift.specs.Case.{most_precision}
 use Rattle.lift_cert.specs.declared.bound.Bound.{Bound}
 use Rattle.plift_words.specs.Line.{is_lumped, is_property, is_cost, is_asking, is_check, is_migrate, depth_behind, word_behind, is_plain, options, value_of}
 use Rattle.plift_words.specs.Values.{goal_of, reward_of, bound_of, cap_of, budget_of, option_number, steps_of, blocks_of}
-use Rattle.plift_words.specs.Job.{JobData, query_in, limits_in, verify_job, formula_field, formula_in, property_job, cost_job, asking_job, blocks_job, refine_job, other_job, job}
+use Rattle.plift_words.specs.Job.{JobData, from_in, query_in, limits_in, verify_job, formula_field, formula_in, property_job, cost_job, asking_job, blocks_job, refine_job, other_job, job}
 use Rattle.plift_words.specs.Given.{IsOfVerify}
 use Rattle.lift_cost.specs.declared.question.Budget.{Budget}
 use Rattle.plift_words.specs.declared.query.CostLimits.{CostLimits}
@@ -56,24 +56,31 @@ of_verify l (Some g) (Some b) r None p h v = tt
 of_verify l (Some g) (Some b) r (Some d) None h v = tt
 
 -- the job of the values of a line of `property`
-abbrev property_by : Result FormulaData Field → List ℕ → Option ℕ → Option ℕ → Result JobData Field
-property_by formula region depth precision = do
+abbrev property_by : Result FormulaData Field → List ℕ → Option ℕ → Option ℕ → Option (List ℕ) → Result JobData Field
+property_by formula region depth precision from = do
   formula ← formula
   depth ← ok_or depth field.Depth
   precision ← ok_or precision field.Precision
-  Ok (JobData.verify (record { goal = formula.goal; safe = formula.safe; reward = None; region = region; depth = depth; precision = precision; query = query.Property formula.bound formula.op }))
+  least ← from_in precision from
+  Ok (JobData.verify (record { goal = formula.goal; safe = formula.safe; reward = None; region = region; depth = depth; precision = precision; query = query.Property formula.bound formula.op least }))
 
-of_formula : (f : Result FormulaData FormulaError) (region : List ℕ) (depth precision : Option ℕ) → IsOfVerify (property_by (formula_field f) region depth precision)
-of_formula (Ok f) r (Some d) (Some p) = tt
-of_formula (Ok f) r None p = tt
-of_formula (Ok f) r (Some d) None = tt
-of_formula (Err error.Syntax) r d p = tt
-of_formula (Err error.Bound) r d p = tt
-of_formula (Err error.Memory) r d p = tt
+of_range : (f : FormulaData) (region : List ℕ) (depth precision : ℕ) (word : List ℕ) (from : Option ℕ) → option_number 1 precision word ≡ from
+    → IsOfVerify (property_by (Ok f) region (Some depth) (Some precision) (Some word))
+of_range f r d p word (Some v) is = rw is tt
+of_range f r d p word None is = rw is tt
 
-of_property : (word : Option (List ℕ)) (region : List ℕ) (depth precision : Option ℕ) → IsOfVerify (property_by (formula_in word) region depth precision)
-of_property None r d p = tt
-of_property (Some word) r d p = of_formula (formula_of word) r d p
+of_formula : (f : Result FormulaData FormulaError) (region : List ℕ) (depth precision : Option ℕ) (from : Option (List ℕ)) → IsOfVerify (property_by (formula_field f) region depth precision from)
+of_formula (Ok f) r (Some d) (Some p) None = tt
+of_formula (Ok f) r (Some d) (Some p) (Some word) = of_range f r d p word (option_number 1 p word) refl
+of_formula (Ok f) r None p v = tt
+of_formula (Ok f) r (Some d) None v = tt
+of_formula (Err error.Syntax) r d p v = tt
+of_formula (Err error.Bound) r d p v = tt
+of_formula (Err error.Memory) r d p v = tt
+
+of_property : (word : Option (List ℕ)) (region : List ℕ) (depth precision : Option ℕ) (from : Option (List ℕ)) → IsOfVerify (property_by (formula_in word) region depth precision from)
+of_property None r d p v = tt
+of_property (Some word) r d p v = of_formula (formula_of word) r d p v
 
 -- the job of the values of a line of `cost`
 abbrev cost_by : Option (List ℕ) → List ℕ → Option ℕ → Option ℕ → Option (List ℕ) → Option (List ℕ) → Option (List ℕ) → Result JobData Field
@@ -129,7 +136,7 @@ of_verified words =
     let depth = option_number 0 most_halvings (unwrap_or (value (codes "--depth")) (codes "0")) in
     let precision = option_number 1 most_precision (unwrap_or (value (codes "--precision")) (codes "24")) in
     either_of (is_property words) (property_job value) (if is_cost words then cost_job value else verify_job (is_lumped words) value)
-    (of_property (value (codes "--formula")) region depth precision)
+    (of_property (value (codes "--formula")) region depth precision (value (codes "--from")))
     (either_of (is_cost words) (cost_job value) (verify_job (is_lumped words) value)
     (of_cost (option_and_then goal_of (value (codes "--goal"))) region depth precision (option_and_then reward_of (value (codes "--reward"))) (value (codes "--cap")) (value (codes "--budget")))
     (of_verify (is_lumped words) (option_and_then goal_of (value (codes "--goal"))) (option_and_then bound_of (value (codes "--bound"))) region depth precision (value (codes "--steps")) (value (codes "--from"))))

@@ -82,13 +82,14 @@ abbrev pub formula_in : Option (List ℕ) → Result FormulaData Field
 formula_in None = Err field.Formula
 formula_in (Some word) = formula_field (formula_of word)
 
--- The job of a line of `property`, by the words behind its options, or the first of formula, its bound, depth and precision that is out of its grammar or range.
+-- The job of a line of `property`, by the words behind its options, or the first of formula, its bound, depth, precision, and the least precision that is out of its grammar or range.
 abbrev pub property_job : (List ℕ → Option (List ℕ)) → Result JobData Field
 property_job given = do
   formula ← formula_in (given (codes "--formula"))
   depth ← depth_of (given (codes "--depth"))
   precision ← precision_of (given (codes "--precision"))
-  Ok (JobData.verify (record { goal = formula.goal; safe = formula.safe; reward = None; region = unwrap_or (given (codes "--region")) []; depth = depth; precision = precision; query = query.Property formula.bound formula.op }))
+  from ← from_in precision (given (codes "--from"))
+  Ok (JobData.verify (record { goal = formula.goal; safe = formula.safe; reward = None; region = unwrap_or (given (codes "--region")) []; depth = depth; precision = precision; query = query.Property formula.bound formula.op from }))
 
 -- the cap and the budget, or the first of them that is out of its grammar or range
 abbrev pub limits_in : Option (List ℕ) → Option (List ℕ) → Result CostLimits Field

@@ -61,9 +61,13 @@ is_command name must may (command ∷ words) = bytes_eq command name && are_opti
 abbrev pub common_options : List (List ℕ)
 common_options = codes "--region" ∷ codes "--depth" ∷ codes "--precision" ∷ []
 
+-- those that may stand where a range of precisions may be asked for
+abbrev pub range_options : List (List ℕ)
+range_options = codes "--from" ∷ common_options
+
 -- the command `verify`
 abbrev pub is_verify : List (List ℕ) → Bool
-is_verify = is_command (codes "verify") (codes "--goal" ∷ codes "--bound" ∷ []) (codes "--from" ∷ common_options)
+is_verify = is_command (codes "verify") (codes "--goal" ∷ codes "--bound" ∷ []) range_options
 
 -- the command `bounded`
 abbrev pub is_bounded : List (List ℕ) → Bool
@@ -75,7 +79,7 @@ is_lumped = is_command (codes "lumped") (codes "--goal" ∷ codes "--bound" ∷ 
 
 -- the command `property`
 abbrev pub is_property : List (List ℕ) → Bool
-is_property = is_command (codes "property") (codes "--formula" ∷ []) common_options
+is_property = is_command (codes "property") (codes "--formula" ∷ []) range_options
 
 -- the command `cost`
 abbrev pub is_cost : List (List ℕ) → Bool

@@ -9,7 +9,7 @@ abbrev pub query_bound : Query → Option Bound
 query_bound (query.Whole bound from) = Some bound
 query_bound (query.Within bound h) = Some bound
 query_bound (query.Lumped bound) = Some bound
-query_bound (query.Property bound op) = Some bound
+query_bound (query.Property bound op from) = Some bound
 query_bound (query.Cost limits) = None
 
 -- the number of steps, where one is told
@@ -20,6 +20,7 @@ query_steps _ = None
 -- the least precision of a range, where one is told
 abbrev pub query_from : Query → Option ℕ
 query_from (query.Whole bound from) = from
+query_from (query.Property bound op from) = from
 query_from _ = None
 
 -- the cap, where one is told

@@ -153,6 +153,7 @@ fn property_in<'a>(matches: &ArgMatches<'a>) -> Result<Job<'a>, Field>
     let formula = formula_of(matches.get_str("formula").ok_or(Field::Formula)?)?;
     let depth = depth_in(matches)?;
     let precision = precision_in(matches)?;
+    let from = from_in(matches, precision)?;
     Ok(Job::Verify(VerifyJob {
         goal: formula.goal,
         safe: formula.safe,
@@ -160,7 +161,7 @@ fn property_in<'a>(matches: &ArgMatches<'a>) -> Result<Job<'a>, Field>
         region: region_in(matches),
         depth,
         precision,
-        query: Query::Property(formula.bound, formula.op),
+        query: Query::Property(formula.bound, formula.op, from),
     }))
 }
 

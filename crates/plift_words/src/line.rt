@@ -15,6 +15,9 @@ use lift_frac::cut_at;
 /// The options that may stand behind each command that asks.
 const COMMON_OPTIONS: [&str; 3] = ["--region", "--depth", "--precision"];
 
+/// Those that may stand where a range of precisions may be asked for.
+const RANGE_OPTIONS: [&str; 4] = ["--from", "--region", "--depth", "--precision"];
+
 /// An option as it stands in a line.
 #[derive(Clone, Copy)]
 struct Setting<'a> {
@@ -166,7 +169,7 @@ fn is_verify(words: &[String]) -> bool
 {
     let form = Form {
         must: &["--goal", "--bound"],
-        may: &["--from", "--region", "--depth", "--precision"],
+        may: &RANGE_OPTIONS,
     };
     form.is_command("verify", words)
 }
@@ -198,7 +201,7 @@ pub fn is_property(words: &[String]) -> bool
 {
     let form = Form {
         must: &["--formula"],
-        may: &COMMON_OPTIONS,
+        may: &RANGE_OPTIONS,
     };
     form.is_command("property", words)
 }

@@ -20,8 +20,9 @@ pub enum Query {
     Within(Bound, u32),
     /// Of a chain, by its quotient, on any number of steps.
     Lumped(Bound),
-    /// Of the model, on any number of steps, for a property that compares in this way.
-    Property(Bound, Op),
+    /// Of the model, on any number of steps, for a property that compares in this way; with the least precision of a
+    /// range, where one is told.
+    Property(Bound, Op, Option<u32>),
     /// What is paid in the model before the goal.
     Cost(CostLimits),
 }
