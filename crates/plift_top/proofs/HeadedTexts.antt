@@ -7,8 +7,8 @@ use Rattle.std.proofs.lemmas.List.Folds.{concat-append}
 use Rattle.lift_base.specs.Outside.{Rose, AppendsFront, Wrote, WroteSome}
 use Rattle.lift_model.specs.Model.{ModelData}
 use Rattle.corner_lift.specs.Case.{CaseData}
-use Rattle.cert_text.specs.Report.{model_lines, box_line}
-use Rattle.plift_top.specs.Heads.{IsHeaded, fineness_lines, head_of}
+use Rattle.cert_text.specs.Report.{model_lines, from_lines, scale_lines, region_lines, box_line}
+use Rattle.plift_top.specs.Heads.{IsHeaded, precision_line, fineness_lines, head_of}
 use Rattle.plift_top.specs.Steps.{WritesText}
 use Rattle.plift_top.specs.declared.refusal.Refusal.{Refusal}
 use Rattle.plift_top.specs.declared.refusal.Refusal.TheVariants as refusal
@@ -16,15 +16,20 @@ use Rattle.plift_top.proofs.Errors.{at_error}
 use Rattle.plift_top.proofs.Telling.{front_then, front_of}
 
 -- the parts of a head, one after the other
-pub head_parts : (first : List ℕ) (k : CaseData) (asked : List (List ℕ)) (m : ModelData) → m ≡ k.model
-    → concat (head_of first k asked) ≡ first ++ (concat (model_lines m) ++ (concat asked ++ (concat (fineness_lines k) ++ box_line k.root)))
-head_parts first k asked m e =
+pub head_parts : (first : List ℕ) (k : CaseData) (from : Option ℕ) (asked : List (List ℕ)) (m : ModelData) → m ≡ k.model
+    → concat (head_of first k from asked) ≡ first ++ (concat (model_lines m) ++ (concat asked ++ concat (fineness_lines k from)))
+head_parts first k from asked m e =
     ap (λ (rest : List ℕ). first ++ rest)
-    (concat-append (model_lines k.model) (asked ++ (fineness_lines k ++ box_line k.root ∷ []))
-    ∙ ap₂ (λ (head rest : List ℕ). head ++ rest) (ap (λ (n : ModelData). concat (model_lines n)) (sym e))
-    (concat-append asked (fineness_lines k ++ box_line k.root ∷ [])
-    ∙ ap (λ (rest : List ℕ). concat asked ++ rest)
-    (concat-append (fineness_lines k) (box_line k.root ∷ []) ∙ ap (λ (rest : List ℕ). concat (fineness_lines k) ++ rest) (append-nil (box_line k.root)))))
+    (concat-append (model_lines k.model) (asked ++ fineness_lines k from)
+    ∙ ap₂ (λ (head rest : List ℕ). head ++ rest) (ap (λ (n : ModelData). concat (model_lines n)) (sym e)) (concat-append asked (fineness_lines k from)))
+
+-- and those of its end
+pub fineness_parts : (k : CaseData) (from : Option ℕ) → concat (fineness_lines k from) ≡ precision_line k ++ (concat (from_lines from) ++ (concat (scale_lines k) ++ box_line k.root))
+fineness_parts k from =
+    ap (λ (rest : List ℕ). precision_line k ++ rest)
+    (concat-append (from_lines from) (region_lines k)
+    ∙ ap (λ (rest : List ℕ). concat (from_lines from) ++ rest)
+    (concat-append (scale_lines k) (box_line k.root ∷ []) ∙ ap (λ (rest : List ℕ). concat (scale_lines k) ++ rest) (append-nil (box_line k.root))))
 
 module _ {K : Type 0} (head : List ℕ) (IsNodes : List ℕ → Type 0) (taken : K → Option (List ℕ)) (faults : K → ℕ) where
   abbrev IsText : List ℕ → Type 0

@@ -26,7 +26,7 @@ within_lines bound h = line (bound_words bound) ∷ line (number_words (codes "s
 
 -- the head: the version, the model, and what is asked of it
 abbrev pub bounded_head : CaseData → Bound → ℕ → List (List ℕ)
-bounded_head k bound h = head_of bounded_line k (within_lines bound h)
+bounded_head k bound h = head_of bounded_line k None (within_lines bound h)
 
 -- the bytes of a text: those of its head, and of its tree's nodes in preorder
 abbrev pub bounded_text : CaseData → Bound → ℕ → Halved BoundedLeaf → List ℕ

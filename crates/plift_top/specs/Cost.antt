@@ -51,7 +51,7 @@ cost_lines q = line (cost_words q.costs) ∷ limit_lines q
 
 -- the head: the version, the model, and what is asked of it
 abbrev pub cost_head : CaseData → AskedCost → List (List ℕ)
-cost_head k q = head_of cost_line k (cost_lines q)
+cost_head k q = head_of cost_line k None (cost_lines q)
 
 -- the bytes of a text: those of its head, and of its tree's nodes in preorder
 abbrev pub cost_text : CaseData → AskedCost → Halved (List ℤ) → List ℕ

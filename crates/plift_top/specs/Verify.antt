@@ -65,12 +65,12 @@ IsRefusedAt job (Ok m) why = IsRefusedOf (lacks_chain job.query m.kind) job m wh
 abbrev pub IsRefused : VerifyData → Refusal → List ℕ → Type 0
 IsRefused job why text = IsRefusedAt job (verified_model job text) why
 
--- What is asked of a case of a model is told so: for a bound on any number of steps, with a range of precisions where one is told, for a bound on as many as are told, of the quotient where the chain is lumped, for a property, or for a budget.
+-- What is asked of a case of a model is told so: for a bound on any number of steps, with a range of precisions where one is told, for a bound on as many as are told, of the quotient where the chain is lumped, for a property, with a range where one is told, or for a budget.
 abbrev pub IsToldOf : (CaseData → CaseQuestion → Type 0) → Query → AskedModel → CaseData → Type 0
 IsToldOf Told (query.Whole bound from) a k = Told k (whole_question k from bound)
 IsToldOf Told (query.Within bound h) a k = Told k (within_question k bound h)
 IsToldOf Told (query.Lumped bound) a k = (l : LumpedData) × IsLumpedCase k l × Told (lumped_case k l) (lumped_question k l bound)
-IsToldOf Told (query.Property bound op) a k = Told k (property_question a k op bound)
+IsToldOf Told (query.Property bound op from) a k = Told k (property_question a k from op bound)
 IsToldOf Told (query.Cost limits) a k = Told k (cost_question k (asked_cost limits a))
 
 -- the answer to a case of a model was appended, whole

@@ -44,12 +44,12 @@ pub(crate) trait Asking {
 
 // What is asked, with the room that was made for it.
 #[derive(Drop)]
-struct Told<'a, 'r, A: Asking> {
+struct QueryInRoom<'a, 'r, A: Asking> {
     asked: &'a A,
     room: &'r mut A::Room,
 }
 
-impl<'a, 'r, A: Asking> Telling for Told<'a, 'r, A> {
+impl<'a, 'r, A: Asking> Telling for QueryInRoom<'a, 'r, A> {
     ghost is_ready = { λ t. A.can t.asked.now × A.is_made t.asked.now t.room.now };
 
     ghost is_text = { λ t. IsHeaded (A.head t.asked.now) (A.are_nodes t.asked.now) };
@@ -71,11 +71,11 @@ pub(crate) fn answer<A: Asking, K: Sink>(
         out.old out.new result }
 {
     let mut room = asked.make_room(alloc)?;
-    let mut told = Told {
+    let mut query = QueryInRoom {
         asked,
         room: &mut room,
     };
-    let written = tell_buffered(out, &mut told);
+    let written = tell_buffered(out, &mut query);
     drop(room);
     Ok(written?)
 }

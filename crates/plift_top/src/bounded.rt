@@ -12,7 +12,7 @@ ghost use Rattle.plift_top.specs.Bounded.{within_lines, bounded_head};
 ghost use Rattle.plift_top.specs.Steps.{IsTestedCase, AnswersCase};
 
 use crate::asking::{Asking, answer};
-use crate::heads::write_scale;
+use crate::heads::write_fineness;
 use crate::refusal::Refusal;
 use cert_text::write_model;
 use corner_lift::{Case, live_parameters_have_spans};
@@ -57,7 +57,7 @@ fn write_bounded_head<K: Sink>(
     write_all(out, b"plift-bounded 1\n")?;
     write_model(out, case.model())?;
     write_within(out, bound, steps)?;
-    write_scale(out, case)
+    write_fineness(out, case, None)
 }
 
 /// What is asked of a case whose rows were tested: whether what is reached within so many steps stays within a bound.

@@ -12,7 +12,7 @@ ghost use Rattle.plift_top.specs.Cost.{fraction_word, cost_word, cost_words, lim
 ghost use Rattle.plift_top.specs.Steps.{IsTestedCase, AnswersCase};
 
 use crate::asking::{Asking, answer};
-use crate::heads::write_scale;
+use crate::heads::write_fineness;
 use crate::refusal::Refusal;
 use cert_text::write_model;
 use corner_lift::live_parameters_have_spans;
@@ -103,7 +103,7 @@ fn write_cost_head<K: Sink>(out: &mut K, question: &CostQuestion) -> Result<(), 
     write_all(out, b"plift-cost 1\n")?;
     write_model(out, question.case.model())?;
     write_asked(out, question)?;
-    write_scale(out, question.case)
+    write_fineness(out, question.case, None)
 }
 
 impl<'c, 'm> Asking for CostQuestion<'c, 'm> {

@@ -164,14 +164,14 @@ fn write_answer<K: Sink>(
             out,
         ),
         Query::Lumped(bound) => write_lumped(alloc, case, bound, out),
-        Query::Property(bound, op) => answer_property(
+        Query::Property(bound, op, from) => answer_property(
             alloc,
             &Question {
                 case,
                 links,
                 op,
                 bound,
-                from: None,
+                from,
             },
             out,
         ),

@@ -1,11 +1,22 @@
-use Rattle.std.proofs.Common.{rules, append_assoc, ◌≡◌, to_z, of_z}
-use Rattle.std.specs.Int.{w128}
-use Rattle.plift_top.specs.Heads.{fineness_lines}
+use Rattle.plift_top.proofs.HeadedTexts.{fineness_parts}
 use Rattle.plift_top.proofs.heads.write_fineness.Goals as goal
 
+pub returns-in_err-write_precision : goal.returns-in_err-write_precision
+returns-in_err-write_precision g c =
+    rw (fineness_parts c.args.case.now c.args.from) (c.writes_in_turn.ensures.stopped _ _ _ _ _ _ c.from_residual.ensures.0 c.in_err-write_precision.ensures)
+
+pub returns-in_err-write_from : goal.returns-in_err-write_from
+returns-in_err-write_from g c =
+    rw (fineness_parts c.args.case.now c.args.from)
+    (c.writes_in_turn.ensures.both _ _ _ _ _ _ c.in_ok-write_precision.ensures (c.writes_in_turn.ensures.stopped _ _ _ _ _ _ c.from_residual-in_err-write_from.ensures.0 c.in_err-write_from.ensures))
+
+pub returns-in_err-write_grid : goal.returns-in_err-write_grid
+returns-in_err-write_grid g c =
+    rw (fineness_parts c.args.case.now c.args.from)
+    (c.writes_in_turn.ensures.both _ _ _ _ _ _ c.in_ok-write_precision.ensures (c.writes_in_turn.ensures.both _ _ _ _ _ _ c.in_ok-write_from.ensures (c.writes_in_turn.ensures.stopped _ _ _ _ _ _ c.from_residual-in_err-write_grid.ensures.0 c.in_err-write_grid.ensures)))
+
 pub returns : goal.returns
-unfolding fineness_lines
 returns g c =
-    let d : to_z w128 (of_z w128 c.from-3.result) ≡ c.args.case.now.d = search rules in
-    let written = rw (c.from.ensures, c.w.ensures.value, c.from-2.ensures, c.grid-grid.ensures.depth, d) at c.write_words.ensures in
-    simp append_assoc written
+    rw (fineness_parts c.args.case.now c.args.from)
+    (c.writes_in_turn.ensures.both _ _ _ _ _ _ c.in_ok-write_precision.ensures
+    (c.writes_in_turn.ensures.both _ _ _ _ _ _ c.in_ok-write_from.ensures (c.writes_in_turn.ensures.both _ _ _ _ _ _ c.in_ok-write_grid.ensures (rw c.root.ensures.value at c.write_box.ensures))))

@@ -1,4 +1,6 @@
 use Rattle.std.proofs.Common.{refl}
+use Rattle.lift_range.specs.Range.{Between}
+use Rattle.plift_top.proofs.PropertyTexts.{if_some}
 use Rattle.plift_top.proofs.verify.write_answer.Goals as goal
 
 pub answer_reach-requires-clause-from : goal.answer_reach-requires-clause-from
@@ -6,6 +8,10 @@ answer_reach-requires-clause-from g c v e = rw c.requires.precision (c.args.job.
 
 pub answer_within-requires-clause-steps : goal.answer_within-requires-clause-steps
 answer_within-requires-clause-steps g c = c.args.job.now.steps_in_range c.in-Within.steps (rw c.in-Within.is refl)
+
+pub answer_property-requires-clause-from : goal.answer_property-requires-clause-from
+answer_property-requires-clause-from g c =
+    if_some (Between 1 c.args.tested.now.case.now.w) c.in-Property.from (λ v e. rw c.requires.precision (c.args.job.now.from_in_range v (rw c.in-Property.is e)))
 
 pub answer_cost-requires-clause-can : goal.answer_cost-requires-clause-can
 answer_cost-requires-clause-can g c = record {

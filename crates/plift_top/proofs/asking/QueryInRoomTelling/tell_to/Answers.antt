@@ -1,5 +1,5 @@
 use Rattle.plift_top.proofs.HeadedTexts.{head_failed, nodes_reported}
-use Rattle.plift_top.proofs.asking.ToldTelling.tell_to.Goals as goal
+use Rattle.plift_top.proofs.asking.QueryInRoomTelling.tell_to.Goals as goal
 
 pub returns-in_err-write_head : goal.returns-in_err-write_head
 returns-in_err-write_head g c =
