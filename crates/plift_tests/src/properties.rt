@@ -29,6 +29,10 @@ property --formula P<1/2[F\"heads\"] --region 1/2<=p<=9/10 --precision 4 | COIN 
     lower e 1 k 1 m 1 b 8/16;y 8 16 0;choice 0 - -;rank 1 0 -; | -
 property --formula P<=1/2[F\"heads\"] --region 1/5<=p<=3/5 --depth 1 --precision 4 | COIN | Done | ;depth 1;grid 10;\
     box 2 6;split 0;holds;x 7 16 0;unknown; | -
+property --from 1 --formula P>=1/2[F\"heads\"] --region 1/10<=p<=9/10 --depth 2 --precision 4 | COIN | Done | \
+    plift-property 2;kind dtmc;parameters 1 p;common 1;states 3;init 0;goal 1 1;row 0 0 2;to 1 1:1;to 2 0:1 1:-1;\
+    row 1 0 1;to 1 0:1;row 2 0 1;to 2 0:1;property >= 1/2;precision 4;from 1;depth 2;grid 40;box 4 36;split 0;split 0;\
+    at 3;fails;x 3 8 0;choice 0 - 0;unknown;at 1;holds;lower e 1 k 1 m 1 b 1/2;y 1 2 0;rank 1 0 -; | -
 property --formula P<=1/2[\"safe\"U\"heads\"] --region 1/2<=p<=3/4 --precision 4 | DETOUR | Done | plift-property 1;\
     kind dtmc;parameters 1 p;common 1;states 5;init 0;goal 1 3;row 0 0 2;to 1 1:1;to 2 0:1 1:-1;row 1 0 1;to 1 0:1;\
     row 2 0 2;to 3 1:1;to 4 0:1 1:-1;row 3 0 1;to 3 0:1;row 4 0 1;to 4 0:1;property <= 1/2;precision 4;depth 0;grid 4;\
@@ -52,7 +56,8 @@ property --formula P<=1/2[F\"heads\"] --precision 41 | COIN | Usage | - | usage:
 property --formula P<=1/2[F\"heads\"] --goal heads | COIN | Usage | - | usage: words;
 property --formula P<=1/2[F\"heads\"] --bound 1/2 | COIN | Usage | - | usage: words;
 property --formula P<=1/2[F\"heads\"] --steps 1 | COIN | Usage | - | usage: words;
-property --formula P<=1/2[F\"heads\"] --from 1 | COIN | Usage | - | usage: words;
+property --formula P<=1/2[F\"heads\"] --from 25 | COIN | Usage | - | usage: --from;
+property --from 0 --formula P<=1/2[F\"heads\"] --precision 41 | COIN | Usage | - | usage: --precision;
 property --formula P<=1/2[F\"heads\"] --formula P<=1/2[F\"heads\"] | COIN | Usage | - | usage: words;
 property --goal heads --bound 1/2 | COIN | Usage | - | usage: words;
 property --formula | COIN | Usage | - | usage: words;
