@@ -234,6 +234,18 @@ def property_nodes(folder: Path) -> Iterator[Tried]:
     yield Tried('docs/FORMATS.md: properties', '' if len(told) == 2 else f'{len(told)} are told of')
 
 
+def property_of_range(folder: Path) -> Iterator[Tried]:
+    """The text of a property of version 2 that docs/FORMATS.md shows from its precision on: whether the words that it
+    names give it, with the formula and the precision of the one before."""
+    page = page_text('docs/FORMATS.md')
+    told = re.search(r'^Over `([^`]+)` with `([^`]+)` the first of them .*?^```text\n(.*?)^```', page, re.S | re.M)
+    region, options, shown = told.groups() if told else ('', '', '')
+    before = re.findall(r'^With `(--formula [^`]+) --region \S+ (--precision \d+)`', page, re.M)[0]
+    words = f"{' '.join(before)} --region '{region}' {options}"
+    said = bash(f"./plift property {words} < examples/coin.drn | sed '1,/^property/d'", folder)
+    yield Tried('docs/FORMATS.md: a property of version 2', '' if told and said == shown else said)
+
+
 def cost_lines(folder: Path) -> Iterator[Tried]:
     """The end of a text for a budget that docs/FORMATS.md shows: whether the words that it names give it."""
     form = r'^With `(--goal [^`]+ --budget [^`]+)` .*? `(examples/\S+)`.*?:\n\n```text\n(.*?)^```'
@@ -305,6 +317,7 @@ def tried(place: Path, programs: dict[str, Path]) -> Iterator[Tried]:
     yield from examples(folders[0])
     yield from second_version(folders[0])
     yield from property_nodes(folders[0])
+    yield from property_of_range(folders[0])
     yield from cost_lines(folders[0])
     yield from lengths()
     yield from references()

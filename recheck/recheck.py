@@ -158,7 +158,7 @@ class Report:
     def __init__(self, text: Text) -> None:
         self.text, form = text, text.due()[0]
         self.form, version = form, numbers(text.take(form if form in FORMS else REPORT), 1)
-        need(version == [1] or version == [2] and form == REPORT, 'Version')
+        need(version == [1] or version == [2] and form in (REPORT, PROPERTY), 'Version')
         kind = self.kind = text.take(b'kind')
         need(kind in ([b'dtmc'], [b'mdp']))
         names = text.counted(b'parameters')

@@ -142,17 +142,17 @@ def ranged(text: bytes) -> bytes:
     lines, more, precision = [], -1, 0
     for line in text.decode().splitlines():
         key, *words = line.split(' ')
-        if key in ('accept', 'reject'):
+        if key in ('accept', 'reject', 'holds', 'fails'):
             more = (more + 1) % 3
             lines.append(f'at {precision + more}')
-        if key == 'plift':
-            line = 'plift 2'
+        if key in ('plift', 'plift-property'):
+            line = f'{key} 2'
         elif key == 'precision':
             precision = int(words[0])
             line = f'precision {precision + 2}\nfrom {precision}'
-        elif key in ('accept', 'y'):
+        elif key in ('accept', 'x', 'y'):
             line = ' '.join([key, *(str(int(word) << more) for word in words)])
-        elif key == 'reject':
+        elif key in ('reject', 'lower'):
             parts = [int(word) << more for word in words[-1].split('/')]
             line = ' '.join([key, *words[:-1], '/'.join(map(str, parts))])
         lines.append(line)
@@ -160,6 +160,7 @@ def ranged(text: bytes) -> bytes:
 
 
 RANGED = {f'{name}-RANGED': ranged(text) for name, text in EXAMPLES.items()}
+PROPERTIES.update({f'{name}-RANGED': ranged(text) for name, text in PROPERTIES.items()})
 REPORTS = {'LOW': LOW, 'BACK': BACK, 'RANGE': RANGE, 'NINE': NINE_LOW.replace(';', '\n').encode(), **RANGED, **EXAMPLES}
 
 # Each row: a report; changes, each a line's number and what stands there in its place (`;` between two lines, `-`
@@ -494,7 +495,25 @@ PROPERTY_TABLE = '''
 MOST | | sound holds 1 fails 0 unknown 0
 MOST | 24=x 13 16 1 | sound holds 1 fails 0 unknown 0
 MOST | 23=unknown / 24=- | sound holds 0 fails 0 unknown 1
-MOST | 1=plift-property 2 | line 1: Version
+MOST | 1=plift-property 2 | line 20: Syntax
+MOST | 1=plift-property 3 | line 1: Version
+MOST | 1=plift-property 2 / 19=precision 4;from 1 / 23=at 4;holds | sound holds 1 fails 0 unknown 0
+MOST | 1=plift-property 2 / 19=precision 4;from 1 | line 24: Syntax
+MOST | 1=plift-property 2 / 19=precision 4;from 1 / 23=at 5;holds | line 24: Limit
+MOST | 1=plift-property 2 / 19=precision 4;from 1 / 23=at 3;holds | line 26: Limit
+MOST | 1=plift-property 2 / 19=precision 4;from 4 / 23=at 3;holds | line 24: Limit
+MOST | 1=plift-property 2 / 19=precision 4;from 5 / 23=at 4;holds | line 20: Limit
+MOST | 1=plift-property 2 / 19=precision 4;from 1 / 23=at 4;unknown / 24=- | line 25: Syntax
+MOST | 1=plift-property 2 / 19=precision 4;from 1 / 23=at 4;at 4;holds | line 25: Syntax
+MOST | 1=plift-property 2 / 19=precision 4;from 1 / 23=unknown / 24=- | sound holds 0 fails 0 unknown 1
+MOST | 1=plift-property 2 / 19=precision 4;from 1 / 22=box 12 15 / 23=at 2;holds / 24=x 3 4 0 | sound holds 1 fails 0 unknown 0
+MOST-RANGED | | sound holds 1 fails 0 unknown 0
+BELOW-RANGED | | sound holds 1 fails 0 unknown 0
+SOME-RANGED | | sound holds 0 fails 1 unknown 0
+LEAST-RANGED | | sound holds 1 fails 0 unknown 0
+ONE-RANGED | | sound holds 0 fails 1 unknown 0
+HALVES-RANGED | | sound holds 0 fails 1 unknown 1
+SOME-RANGED | 26=lower e 1 k 1 m 1 b 9/32 | line 26: Syntax
 MOST | 1=plift-property 1 1 | line 1: Syntax
 MOST | 1=plift-properties 1 | line 1: Syntax
 MOST | 1=plift 1 | line 18: Syntax
