@@ -179,6 +179,13 @@ class Rectangle:
         return Lower(numbers, picks, ranks, self.rate(chosen, ranks), max([1, *(ranks[s] or 0 for s, _ in chosen)]))
 
 
+class At(NamedTuple):
+    """A certificate, and the precision at which it is one."""
+
+    found: Union[Upper, Lower]
+    precision: int
+
+
 def verdict(process: Process, question: Question, box: Box) -> Leaf:
     """What holds of a rectangle."""
     rectangle, op = Rectangle(process, box, question.precision), question.op
@@ -193,6 +200,15 @@ def verdict(process: Process, question: Question, box: Box) -> Leaf:
         return Leaf("holds" if is_most else "fails", box, upper)
     if is_high:
         return Leaf("fails" if is_most else "holds", box, lower)
+    return Leaf("unknown", box, None)
+
+
+def verdict_from(process: Process, question: Question, box: Box, least: int) -> Leaf:
+    """What holds of a rectangle by the least precision of a range that shows it, with that precision."""
+    for precision in range(least, question.precision + 1):
+        leaf = verdict(process, question._replace(precision=precision), box)
+        if leaf.certificate is not None:
+            return leaf._replace(certificate=At(leaf.certificate, precision))
     return Leaf("unknown", box, None)
 
 
@@ -228,17 +244,17 @@ def words(key: str, marks: Sequence[Optional[int]]) -> str:
     return " ".join([key, *("-" if mark is None else str(mark) for mark in marks)])
 
 
-def leaf_lines(process: Process, question: Question, leaf: Leaf) -> List[str]:
-    """A leaf's lines."""
+def leaf_lines(process: Process, leaf: Leaf, precision: int) -> List[str]:
+    """A leaf's lines, where its numbers are over 2^precision."""
     found = leaf.certificate
     if found is None:
         return [leaf.kind]
+    if isinstance(found, At):
+        return [f"at {found.precision}", *leaf_lines(process, leaf._replace(certificate=found.found), found.precision)]
     choices = [] if found.picks is None else [words("choice", found.picks)]
     if isinstance(found, Upper):
         return [leaf.kind, words("x", found.numbers), *choices]
-    first = (
-        f"lower e {found.e} k {found.k} m {found.e * found.k} b {found.numbers[process.init]}/{2**question.precision}"
-    )
+    first = f"lower e {found.e} k {found.k} m {found.e * found.k} b {found.numbers[process.init]}/{2**precision}"
     return [leaf.kind, first, words("y", found.numbers), *choices, words("rank", found.ranks)]
 
 
@@ -267,11 +283,12 @@ def model_lines(process: Process, common: int) -> List[str]:
     return lines
 
 
-def box_lines(box: Box, depth: int, precision: int) -> List[str]:
-    """The lines from the precision to the region."""
+def box_lines(box: Box, depth: int, precision: int, least: Optional[int] = None) -> List[str]:
+    """The lines from the precision to the region, with the least one of a range, where there is one."""
     grid = lcm(*(Fraction(end).denominator for span in box for end in span)) * 2**depth
     ends = " ".join(map(str, ["box", *(int(end * grid) for span in box for end in span)]))
-    return [f"precision {precision}", f"depth {depth}", f"grid {grid}", ends]
+    precisions = [f"precision {precision}", *([] if least is None else [f"from {least}"])]
+    return [*precisions, f"depth {depth}", f"grid {grid}", ends]
 
 
 def root_of(box: Box) -> Box:
@@ -284,16 +301,21 @@ def text_of(lines: Iterable[str]) -> bytes:
     return "".join(f"{line}\n" for line in lines).encode()
 
 
-def answer(process: Process, question: Question) -> Tuple[bytes, Union[Split, Leaf]]:
-    """The text and its tree."""
+def answer(process: Process, question: Question, least: Optional[int] = None) -> Tuple[bytes, Union[Split, Leaf]]:
+    """The text, with a range of precisions from `least` where that is given, and its tree."""
     common, cut = process.common(), process.cut() if question.is_until else process
-    tree = tree_of(lambda box: verdict(cut, question, box), root_of(question.box), question.depth, live_parameters(cut))
+
+    def decide(box: Box) -> Leaf:
+        """The rectangle's leaf."""
+        return verdict(cut, question, box) if least is None else verdict_from(cut, question, box, least)
+
+    tree = tree_of(decide, root_of(question.box), question.depth, live_parameters(cut))
     bound = question.bound
     lines = [
-        "plift-property 1",
+        f"plift-property {1 if least is None else 2}",
         *model_lines(cut, common),
         f"property {question.op} {bound.numerator}/{bound.denominator}",
     ]
-    lines += box_lines(question.box, question.depth, question.precision)
-    lines += node_lines(tree, lambda leaf: leaf_lines(cut, question, leaf))
+    lines += box_lines(question.box, question.depth, question.precision, least)
+    lines += node_lines(tree, lambda leaf: leaf_lines(cut, leaf, question.precision))
     return text_of(lines), tree

@@ -88,7 +88,12 @@ REFUSED = [
     (["property", "--formula", FORMULA, "--formula", FORMULA], COIN, 2, "usage: words"),
     (["property", "--formula", FORMULA, "--goal", "heads"], COIN, 2, "usage: words"),
     (["property", "--formula", FORMULA, "--bound", "1/2"], COIN, 2, "usage: words"),
-    (["property", "--formula", FORMULA, "--from", "1"], COIN, 2, "usage: words"),
+    (["property", "--formula", FORMULA, "--from", "1", "--from", "2"], COIN, 2, "usage: words"),
+    (["property", "--formula", FORMULA, "--from", "0"], COIN, 2, "usage: --from"),
+    (["property", "--from", "25", "--formula", FORMULA], COIN, 2, "usage: --from"),
+    (["property", "--from", "5", "--formula", FORMULA, "--precision", "4"], COIN, 2, "usage: --from"),
+    (["property", "--from", "0", "--formula", FORMULA, "--precision", "41"], COIN, 2, "usage: --precision"),
+    (["property", "--from", "0", "--formula", "P<=1/2"], COIN, 2, "usage: --formula Syntax"),
     (["property", "--formula", FORMULA, "--steps", "1"], COIN, 2, "usage: words"),
     (["property", "--goal", "heads", "--bound", "1/2"], COIN, 2, "usage: words"),
     (["verify", "--formula", FORMULA], COIN, 2, "usage: words"),
@@ -217,7 +222,8 @@ class Table(unittest.TestCase):
             self.assertEqual(checked(ask(words, model).out), f"sound {counts}")
 
     def test_at_most_is_what_verify_asks(self) -> None:
-        """With `<=` and `F` the tree and its numbers are those of `verify`, in other words."""
+        """With `<=` and `F` the tree and its numbers are those of `verify`, in other words, for a range of precisions
+        too."""
         for path in sorted((TOP / "examples").glob("*.drn")):
             model = path.read_bytes()
             names = re.findall(rb"^@parameters\n(.*)$", model, re.M)
@@ -225,8 +231,8 @@ class Table(unittest.TestCase):
             for goal in sorted(
                 set(re.findall(r"[a-z]+", " ".join(re.findall(r"^state \d+ (.*)$", model.decode(), re.M))))
             ):
-                for bound, depth, precision in (("1/2", "0", "24"), ("1/5", "4", "10"), ("1/50", "5", "7")):
-                    options = ["--depth", depth, "--precision", precision] + (["--region", region] if region else [])
+                for bound, depth, *range_words in ASKED:
+                    options = ["--depth", depth, *range_words] + (["--region", region] if region else [])
                     report = ask(["verify", "--goal", goal, "--bound", bound, *options], model)
                     text = ask(["property", "--formula", f'P<={bound} [F "{goal}"]', *options], model)
                     with self.subTest(model=path.name, goal=goal, bound=bound):
@@ -234,10 +240,20 @@ class Table(unittest.TestCase):
                         self.assertEqual(in_words_of_property(report.out), text.out)
 
 
+# Of `verify` and `property`: a bound, a depth, and the words for precisions.
+ASKED = (
+    ("1/2", "0", "--precision", "24"),
+    ("1/5", "4", "--precision", "10"),
+    ("1/50", "5", "--precision", "7"),
+    ("1/5", "4", "--precision", "10", "--from", "1"),
+    ("1/50", "5", "--from", "6", "--precision", "7"),
+)
+
+
 def in_words_of_property(report: bytes) -> bytes:
     """A report in the words of a property with `<=`."""
     changes = [
-        (b"plift 1", b"plift-property 1"),
+        (rb"plift ([12])$", rb"plift-property \1"),
         (b"bound ", b"property <= "),
         (b"accept ", b"holds\nx "),
         (b"reject ", b"fails\nlower "),

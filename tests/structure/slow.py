@@ -9,18 +9,11 @@ from typing import Callable, Dict, Hashable, Iterable, List, NamedTuple, Optiona
 from structures import Asked, Box, Process
 
 from processes import Question
-from reference import Leaf, Lower, Rectangle, Split, Upper
+from reference import Leaf, Rectangle, Split, Upper
 from reference import box_lines, leaves_of, live_parameters, model_lines, node_lines, root_of, text_of, tree_of
-from reference import verdict, words
+from reference import verdict_from, words
 
 Tree = Union[Split, Leaf]
-
-
-class At(NamedTuple):
-    """A certificate, and the precision at which it is one."""
-
-    found: Union[Upper, Lower]
-    precision: int
 
 
 class Vectors(NamedTuple):
@@ -30,23 +23,15 @@ class Vectors(NamedTuple):
     picks: Optional[List[List[Optional[int]]]]
 
 
-def certificate(process: Process, question: Asked, box: Box, precision: int) -> Leaf:
-    """What a rectangle has at a precision."""
-    formula = Question("<=", question.bound, False, [""] * 7, box, 0, precision)
-    return verdict(process, formula, box)
-
-
 def ranged(process: Process, question: Asked, least: int) -> Callable[[Box], Leaf]:
     """Who decides a rectangle at the least precision of a range that does."""
+    formula = Question("<=", question.bound, False, [""] * 7, question.box, 0, question.precision)
+    kinds = {"holds": "accept", "fails": "reject", "unknown": "unknown"}
 
     def decide(box: Box) -> Leaf:
         """The rectangle's leaf."""
-        for precision in range(least, question.precision + 1):
-            leaf = certificate(process, question, box, precision)
-            if leaf.certificate is not None:
-                kind = "accept" if leaf.kind == "holds" else "reject"
-                return Leaf(kind, box, At(leaf.certificate, precision))
-        return Leaf("unknown", box, None)
+        leaf = verdict_from(process, formula, box, least)
+        return leaf._replace(kind=kinds[leaf.kind])
 
     return decide
 
@@ -72,9 +57,8 @@ def report(process: Process, question: Asked, least: Optional[int] = None, commo
     """The report of `verify`, with a range from `least` where it is given, and its tree."""
     decide = ranged(process, question, question.precision if least is None else least)
     tree = tree_of(decide, root_of(question.box), question.depth, live_parameters(process))
-    precision, *rest = box_lines(question.box, question.depth, question.precision)
     lines = [f"plift {1 if least is None else 2}", *head_lines(process, common or process.common(), question.bound)]
-    lines += [precision, *([] if least is None else [f"from {least}"]), *rest]
+    lines += box_lines(question.box, question.depth, question.precision, least)
     return text_of([*lines, *node_lines(tree, lambda leaf: report_leaf(process, leaf, least is not None))]), tree
 
 

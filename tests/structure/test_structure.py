@@ -116,13 +116,19 @@ def of_bounded(chance: random.Random) -> str:
 
 
 def of_property(chance: random.Random) -> str:
-    """The text of a formula."""
+    """The text of a formula, also of version 2."""
     process, _ = question(chance)
     formula = random_question(chance, process)
     formula = formula._replace(depth=min(formula.depth, 2))
-    text, tree = reference.answer(process, formula)
-    fault = other(formula.words(), model_text(process), text)
-    return fault + ("" if checked(text) == slow.sound(tree, ("holds", "fails", "unknown")) else checked(text))
+    least = chance.randrange(1, formula.precision + 1)
+    faults = []
+    for words, (text, tree) in (
+        (formula.words(), reference.answer(process, formula)),
+        ([*formula.words(), "--from", str(least)], reference.answer(process, formula, least)),
+    ):
+        faults.append(other(words, model_text(process), text))
+        faults += [] if checked(text) == slow.sound(tree, ("holds", "fails", "unknown")) else [checked(text)]
+    return "".join(faults)
 
 
 def of_cost(chance: random.Random) -> str:
@@ -172,7 +178,7 @@ class Commands(unittest.TestCase):
         self.holds(of_bounded)
 
     def test_property(self) -> None:
-        """`property`."""
+        """`property`, with a range of precisions and without."""
         self.holds(of_property)
 
     def test_cost(self) -> None:
