@@ -108,5 +108,5 @@ let name line whole fault =
       out "node %s %s%s" (str n) (if Z.sign step > 0 then out "step %s " (str step) else "") (leaf setting box one t)
   | BadBound (n, setting, is_low, left, right), None ->
       let word = match setting.question with Cost _ -> "budget" | _ -> "bound" in
-      let low, high = match setting.question with Property (Below | AtLeast) -> ("<", ">=") | _ -> ("<=", ">") in
+      let low, high = match setting.question with Property ((Below | AtLeast), _) -> ("<", ">=") | _ -> ("<=", ">") in
       out "node %s %s: %s %s %s" (str n) word (str left) (if is_low then high else low) (str right)

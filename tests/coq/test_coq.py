@@ -55,6 +55,8 @@ retry.drn | property --formula P<=1/40[F"lost"] --region 1/10<=p<=1/2,1/10<=q<=1
 retry.drn | property --formula P<1/40[F"lost"] --region 1/10<=p<=1/2,1/10<=q<=1/2 --precision 10 --depth 8
 retry.drn | property --formula P>=9/10[F"delivered"] --region 1/10<=p<=1/2,1/10<=q<=1/2 --precision 10 --depth 8
 retry.drn | property --formula P>9/10[F"delivered"] --region 1/10<=p<=1/2,1/10<=q<=1/2 --precision 10 --depth 8
+retry.drn | property --formula P<=1/40[F"lost"] --region 1/10<=p<=1/2,1/10<=q<=1/2 --precision 10 --depth 8 --from 1
+retry.drn | property --formula P>=9/10[F"delivered"] --region 1/10<=p<=1/2,1/10<=q<=1/2 --precision 9 --depth 8 --from 2
 twin.drn  | property --formula P>=1/2[F"heads"] --region 3/5<=p<=9/10 --precision 4
 sends.drn | cost --goal done --reward seconds --budget 2 --cap 4 --region 1/10<=p<=1/2,1/10<=q<=1/2 --depth 8
 sends.drn | cost --goal done --reward sends --budget 7/5 --cap 3 --region 1/10<=p<=3/10,1/20<=q<=1/5 --precision 10
