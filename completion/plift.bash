@@ -30,7 +30,7 @@ _plift() {
         ;;
     verify) options='--goal --bound --region --depth --precision --from' ;;
     bounded) options='--goal --bound --steps --region --depth --precision' ;;
-    property) options='--formula --region --depth --precision' ;;
+    property) options='--formula --region --depth --precision --from' ;;
     cost) options='--goal --reward --budget --cap --region --depth --precision' ;;
     lumped) options='--goal --bound --region --depth --precision' ;;
     refine) options='--depth' ;;

@@ -185,7 +185,7 @@ show_other_text() {
     [ ! -p /dev/stdin ] || keep_pipe || return 0
     [ -f /dev/stdin ] || return 0
     case $(head -c 17 </dev/stdin 2>/dev/null | head -n 1) in
-    'plift-bounded 1' | 'plift-property 1' | 'plift-cost 1') exec python3 "$top/tools/draw.py" "$@" ;;
+    'plift-bounded 1' | 'plift-property 1' | 'plift-property 2' | 'plift-cost 1') exec python3 "$top/tools/draw.py" "$@" ;;
     'plift 1' | 'plift 2') ! is_rescaled || exec python3 "$top/tools/draw.py" "$@" ;;
     esac
 }

@@ -25,6 +25,7 @@ HEADS = {
     'plift 2': 'verify',
     'plift-bounded 1': 'bounded',
     'plift-property 1': 'property',
+    'plift-property 2': 'property',
     'plift-cost 1': 'cost',
 }
 """The first line of a text, and the command that writes it."""

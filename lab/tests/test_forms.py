@@ -235,13 +235,27 @@ class Answers(InFolder):
         self.assertEqual({report.command for report in reports}, {'property'})
         self.assertEqual(run(*words, '--keep', keep)[1], told)  # all is there already
 
+    def test_a_range_of_precisions(self) -> None:
+        """The text of version 2 that is joined has the bytes of the one that is asked at that depth."""
+        formula, report, again = 'P>=0.99 [F "delivered"]', str(self.folder / 'a'), str(self.folder / 'b')
+        words = ('verify', RETRY, '--formula', formula, '--region', REGION, '--precision', '12', '--from', '1')
+        status, told, fault = run(*words, '--coverage', '93%', '--report', report)
+        self.assertEqual((status, fault), (0, ''))
+        with Session() as session:
+            read = session.read(report)
+        self.assertEqual((read.command, read.version, read.least_precision, read.precision), ('property', 2, 1, 12))
+        self.assertLess(min(read.precisions), 12)
+        self.assertEqual(run(*words, '--depth', str(read.depth), '--report', again)[0], 0)
+        self.assertEqual(Path(report).read_bytes(), Path(again).read_bytes())
+
     def test_words_that_do_not_go_together(self) -> None:
         formula = ('--formula', 'P<=1/4 [F "lost"]')
         for words, says in (
             (('verify', RETRY, *formula, '--bound', '1/4'), 'leave --bound out'),
             (('verify', RETRY, *formula, '--goal', 'lost'), 'not both'),
             (('verify', RETRY, '--formula', 'P=? [F "lost"]'), 'a bound is due'),
-            (('verify', RETRY, '--formula', 'P>=1/4 [F "lost"]', '--from', '3'), '--from goes with'),
+            (('verify', RETRY, '--formula', 'P<=1/4 [F<=3 "lost"]', '--from', '3'), '--from goes with'),
+            (('verify', RETRY, '--formula', 'P>=1/4 [F "lost"]', '--from', '41'), '--from is a whole number'),
             (('verify', RETRY, *formula, '--cap', '0'), '--cap is a whole number'),
         ):
             status, _, fault = run(*words, '--region', REGION)

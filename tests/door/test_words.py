@@ -146,7 +146,8 @@ class Completed(unittest.TestCase):
         self.assertEqual(self.offered("plift", "property", ""), {*line.PROPERTY.valued, "--help"})
         self.assertEqual(self.offered("plift", "property", "--formula", ""), set())
         self.assertEqual(
-            self.offered("plift", "property", "--formula=P", "--"), {"--region", "--depth", "--precision", "--help"}
+            self.offered("plift", "property", "--formula=P", "--"),
+            {"--region", "--depth", "--precision", "--from", "--help"},
         )
         self.assertEqual(self.offered("plift", "cost", ""), {*line.COST.valued, "--help"})
         self.assertEqual(self.offered("plift", "cost", "--reward", ""), set())

@@ -41,6 +41,15 @@ PROPERTY = TWIN % (
     "split 0;split 0;fails;lower e 1 k 1 m 1 b 6/8;y 6 8 0;choice 1 - -;rank 1 0 -;unknown;"
     "split 0;unknown;fails;lower e 1 k 1 m 1 b 6/8;y 6 8 0;choice 0 - -;rank 1 0 -;",
 )
+# The same in version 2: one leaf needs 2 bits, and the other is told with 4.
+RANGED = (
+    PROPERTY.replace("plift-property 1", "plift-property 2")
+    .replace("precision 3;", "precision 4;from 2;")
+    .replace("split 0;fails;lower e 1 k 1 m 1 b 6/8;y 6 8 0;", "split 0;at 2;fails;lower e 1 k 1 m 1 b 3/4;y 3 4 0;")
+    .replace(
+        "unknown;fails;lower e 1 k 1 m 1 b 6/8;y 6 8 0;", "unknown;at 4;fails;lower e 1 k 1 m 1 b 12/16;y 12 16 0;"
+    )
+)
 ALWAYS = TWIN % (
     ">= 1/4",
     "split 0;split 0;fails;x 2 8 0;choice 0 - 0;holds;lower e 2 k 1 m 2 b 2/8;y 2 8 0;rank 1 0 -;"
@@ -185,6 +194,12 @@ class Properties(unittest.TestCase):
             unknown = TWIN.replace("depth 2", "depth 0") % (f"{op} 1/3", "unknown;")
             self.assertIn(f">{words} 1/3, numbers over 2^3, depth 0</text>", draw([], text(unknown)).out)
 
+    def test_a_range_of_precisions(self) -> None:
+        """The second version is drawn as the first; its title tells the range."""
+        first, second = (draw([], text(it)).out for it in (PROPERTY, RANGED))
+        self.assertEqual(field_of(second), field_of(first))
+        self.assertIn(">below 3/4, numbers over 2^2 to 2^4, depth 2</text>", second)
+
     def test_a_table(self) -> None:
         changed = ALWAYS.replace("fails;x 2 8 0;choice 0 - 0", "fails;x 1 8 0;choice 0 - 0")
         self.assertEqual(
@@ -277,6 +292,7 @@ class Door(unittest.TestCase):
                 with self.subTest(words=words, by_file=by_file):
                     self.assertEqual(self.ask_door(words, text(HALVES), by_file), draw(words, text(HALVES)))
                     self.assertEqual(self.ask_door(words, text(PROPERTY), by_file), draw(words, text(PROPERTY)))
+                    self.assertEqual(self.ask_door(words, text(RANGED), by_file), draw(words, text(RANGED)))
                     self.assertEqual(self.ask_door(words, text(HALF), by_file), draw(words, text(HALF)))
                     self.assertEqual(self.ask_door(words, report, by_file), ask([str(VIEW)], words, report))
             self.assertEqual(self.ask_door(["--follow"], text(HALVES), by_file).out.encode(), text(HALVES))

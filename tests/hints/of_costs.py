@@ -47,7 +47,7 @@ WORDS = [
     words(f"cost --goal done --reward sends --budget -1 --cap 3 {REGION}", "--budget", "doesn't begin with -"),
     words(ASKED + " --cap 4", "--cap stands 2 times, with 3, 4"),
     words(ASKED + " --steps 3", "plift bounded"),
-    words(ASKED + " --from 1", "plift verify alone"),
+    words(ASKED + " --from 1", "plift verify and plift property alone"),
     words(ASKED + " --formula 'P<=1/2 [F \"done\"]'", "taken by plift property alone"),
     words(f"cost 'R<=7/5 [F \"done\"]' {COSTS} {REGION}", "--goal LABEL is missing", "--budget B"),
     words(

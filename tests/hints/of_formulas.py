@@ -48,8 +48,10 @@ WORDS = [
         "property --goal lost --bound 3/100 " + REGION, "--formula T is missing", "label and bound stand in the formula"
     ),
     words(ASKED + " --steps 3", "plift bounded"),
-    words(ASKED + " --from 1", "plift verify alone"),
-    words(ASKED + " --threads 4", "is no option of property", "--formula, --region, --depth, --precision"),
+    words(ASKED + " --from 1 --from 8", "--from stands 2 times, with 1, 8"),
+    words(ASKED + " --least 1", "is --from meant?"),
+    words("cost --goal lost --from 1 " + REGION, "a range of precisions", "plift verify and plift property alone"),
+    words(ASKED + " --threads 4", "is no option of property", "--formula, --region, --depth, --precision, --from"),
     words(ASKED + " " + FORMULA, "--formula stands 2 times"),
     words(ASKED + " retry.drn", "a file is given by <", "< retry.drn"),
     words("property --help", "plift --help property"),

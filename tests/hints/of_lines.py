@@ -100,9 +100,15 @@ WORDS = [
     words("lump --goal lost --bound 3/100 " + REGION, "is lumped meant?"),
     words("bounded --goal lost --bound 3/100 --horizon 3", "is --steps meant?"),
     words("bound --goal lost --bound 3/100 --steps 3 " + REGION, "is bounded meant?"),
-    words("lumped --goal lost --bound 3/100 --from 1 " + REGION, "a range of precisions", "plift verify alone"),
     words(
-        "bounded --goal lost --bound 3/100 --steps 3 --from 1 " + REGION, "a range of precisions", "plift verify alone"
+        "lumped --goal lost --bound 3/100 --from 1 " + REGION,
+        "a range of precisions",
+        "plift verify and plift property alone",
+    ),
+    words(
+        "bounded --goal lost --bound 3/100 --steps 3 --from 1 " + REGION,
+        "a range of precisions",
+        "plift verify and plift property alone",
     ),
     words(PLAIN + " --fro 1", "is --from meant?", "abbreviated"),
     words(PLAIN + " --least 1", "is --from meant?"),

@@ -81,7 +81,7 @@ bounded|--goal|lots|--bound|{BOUND}|--region|{REGION}|--steps|3 | model: line 31
 property|--region|{REGION} | usage: words
 property|--goal|{GOAL}|--bound|{BOUND}|--region|{REGION} | usage: words
 property|--formula|P<=1/2 [F "lost"]|--goal|{GOAL}|--region|{REGION} | usage: words
-property|--formula|P<=1/2 [F "lost"]|--region|{REGION}|--from|1 | usage: words
+property|--formula|P<=1/2 [F "lost"]|--region|{REGION}|--from|25 | usage: --from
 property|--formula|P|[F|lost]|--region|{REGION} | usage: words
 property|--formula|P<=1/2 [F lost]|--region|{REGION} | usage: --formula Syntax
 property|--formula|P<=1/2 F "lost"|--region|{REGION} | usage: --formula Syntax

@@ -18,7 +18,8 @@ ASKING = {"verify": RANGED, "bounded": STEPPED, "property": FORMULATED, "cost": 
 FORMS = {
     "verify": "plift verify --goal LABEL --bound B [--region R] [--depth H] [--precision W] [--from V] < model.drn",
     "bounded": "plift bounded --goal LABEL --bound B --steps S [--region R] [--depth H] [--precision W] < model.drn",
-    "property": "plift property --formula 'P<=B [F \"LABEL\"]' [--region R] [--depth H] [--precision W] < model.drn",
+    "property": "plift property --formula 'P<=B [F \"LABEL\"]' [--region R] [--depth H] [--precision W] [--from V]"
+    " < model.drn",
     "cost": "plift cost --goal LABEL --reward NAME --budget B --cap C [--region R] [--depth H] [--precision W]"
     " < model.drn",
     "lumped": "plift lumped --goal LABEL --bound B [--region R] [--depth H] [--precision W] < model.drn",
@@ -75,7 +76,7 @@ MISSING = {
 # Of options of one command: which command takes them.
 ELSEWHERE = {
     "--steps": "--steps stands for a number of steps: that is asked by plift bounded",
-    "--from": "--from begins a range of precisions: that is asked by plift verify alone",
+    "--from": "--from begins a range of precisions: that is asked by plift verify and plift property alone",
     "--formula": "--formula holds label and bound: it is taken by plift property alone",
     "--reward": "--reward names what states cost: that is asked by plift cost, with --budget and --cap",
     "--budget": "--budget bounds an expected cost: that is asked by plift cost, with --reward and --cap",

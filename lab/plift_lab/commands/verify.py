@@ -34,7 +34,7 @@ def add_words(words: argparse.ArgumentParser) -> None:
         '--from',
         metavar='V',
         dest='least',
-        help='decides each part at the least precision from V on that does, in a report of version 2',
+        help='decides each part at the least precision from V on that does, in a report or text of version 2',
     )
     words.add_argument(
         '--relative',
@@ -92,8 +92,8 @@ def _questions(given: argparse.Namespace) -> List[Question]:
     depth = read_count(given.depth, '--depth', 0, MOST_DEPTH)
     precision = asking.precision_of(given)
     least = read_count(given.least, '--from', 1, precision or MOST_BITS) if given.least is not None else None
-    if least is not None and any(one.form.command != 'verify' for one in asked):
-        raise Fault('--from goes with P<=b [F "goal"] alone')
+    if least is not None and any(one.form.command not in ('verify', 'property') for one in asked):
+        raise Fault('--from goes with F and U alone, and with no number of steps and no cost')
     for one in asked:
         asking.require_bound(one)
     model, region = asking.model_of(given), asking.region_of(given)
