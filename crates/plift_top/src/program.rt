@@ -9,6 +9,9 @@ ghost use Rattle.lift_grid.specs.Tree.{Tree};
 ghost use Rattle.corner_lift.specs.Case.{IsCase, IsAdmitted, case_of};
 ghost use Rattle.region_tree.specs.Right.{IsRightTree};
 ghost use Rattle.region_tree.specs.Laws.{RightTreesExist, RightTreesAreOne};
+ghost use Rattle.lift_bounded.specs.Laws.{BoundedTreesExist, BoundedTreesAreOne};
+ghost use Rattle.lift_cost.specs.Laws.{CostTreesExist, CostTreesAreOne};
+ghost use Rattle.property_tree.specs.Laws.{PropertyTreesAreOne, RangeTreesAreOne};
 ghost use Rattle.cert_text.specs.Report.{report_text};
 ghost use Rattle.cert_text.specs.Forms.{IsReportedBound};
 ghost use Rattle.plift_words.specs.Job.{VerifyData};
@@ -47,9 +50,12 @@ use cert_check::{answers_are_one, sound_files_pass};
 use cert_text::texts_tell_one_report;
 use check_notes::Status;
 use lift_base::{Sink, Source, write_buffered};
+use lift_bounded::{bounded_trees_are_one, bounded_trees_exist};
+use lift_cost::{cost_trees_are_one, cost_trees_exist};
 use lift_rows::first_fault_is_one;
 use model_gen::{Ladder, ladders_are_cases};
 use plift_words::{Job, job_of};
+use property_tree::{property_trees_are_one, range_trees_are_one};
 use region_tree::{right_trees_are_one, right_trees_exist};
 use std::alloc::Global;
 
@@ -319,6 +325,15 @@ pub fn run<S: Source, K: Sink, E: Sink>(
     ensures no_other_tree { RightTreesAreOne }
     ensures ladder_tree { LaddersHaveTrees }
 
+    // So it has exactly one for each bound and each number of steps, and for costs, a cap and a budget; and at most one
+    // for each comparison and bound, also with a range of precisions.
+    ensures bounded_tree { BoundedTreesExist }
+    ensures no_other_bounded_tree { BoundedTreesAreOne }
+    ensures cost_tree { CostTreesExist }
+    ensures no_other_cost_tree { CostTreesAreOne }
+    ensures no_other_property_tree { PropertyTreesAreOne }
+    ensures no_other_range_tree { RangeTreesAreOne }
+
     // A refusal is told by its note, and nothing else is.
     ensures silent { result ≡ Status.Done → notes.new ≡ notes.old }
     ensures reported { result ≢ Status.Done → (note : List ℕ)
@@ -333,6 +348,12 @@ pub fn run<S: Source, K: Sink, E: Sink>(
     lumped_reports_are_sound();
     right_trees_are_one();
     right_trees_exist();
+    bounded_trees_are_one();
+    bounded_trees_exist();
+    cost_trees_are_one();
+    cost_trees_exist();
+    property_trees_are_one();
+    range_trees_are_one();
     ladders_are_cases();
     let answer = act(alloc, words, source, out);
     end(notes, answer)
